@@ -1,0 +1,5 @@
+pub mod Margins
+pub mod Quotients
+pub mod Yielding
+pub mod Boxing
+pub mod Agreement

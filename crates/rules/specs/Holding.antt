@@ -1,0 +1,28 @@
+-- When the inequalities of a rule hold. Assumes nothing.
+use mathlib.Core.Bool.{Bool, true, false, _&&_}
+use lib.IntN.{ℤ}
+use lib.Signed.{leZ}
+use Rattle.std.specs.declared.option.Option.{Option}
+use Rattle.std.specs.declared.option.Option.the-variants.{Some, None}
+use Rattle.rules.specs.declared.explained.Side.{Side}
+use Rattle.rules.specs.declared.explained.Sides.{Sides}
+
+abbrev pub inequality : ℤ → ℤ → Side
+inequality g n = record { given = g; needed = n }
+
+-- what is given is at least what is needed
+abbrev pub holds : Side → Bool
+holds s = leZ (s .needed) (s .given)
+
+abbrev pub holds-if-there : Option Side → Bool
+holds-if-there (Some s) = holds s
+holds-if-there None = true
+
+-- each inequality holds
+abbrev pub all-hold : Sides → Bool
+all-hold s = holds (s .mx) && (holds (s .my) && holds-if-there (s .product))
+
+-- there are inequalities, and each holds
+abbrev pub held : Option Sides → Bool
+held (Some s) = all-hold s
+held None = false

@@ -1,0 +1,4 @@
+pub mod Holding
+pub mod Criteria
+pub mod Directions
+pub mod Readings

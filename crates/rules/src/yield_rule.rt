@@ -1,0 +1,119 @@
+ghost use mathlib.Core.Path.{_≡_};
+ghost use Prim.Native.Nat.{_≤_};
+ghost use lib.Dec.{T};
+ghost use Rattle.std.specs.Orderings.{Decides};
+ghost use Rattle.moments.specs.Partners.{Partner};
+ghost use Rattle.moments.specs.Meanings.{passed};
+ghost use Rattle.moments.specs.Triads.{in-limits};
+ghost use Rattle.rules.specs.Criteria.{delivered-ceiling, yields-at, product-side, yield-sides, yield-meaning, Yields};
+use crate::direction::CEILING;
+use crate::direction::excess;
+use crate::direction::least_factor;
+use crate::direction::least_reaching;
+use crate::direction::margin;
+use crate::direction::side;
+use crate::direction::square;
+use crate::direction::times;
+use crate::explained::Explained;
+use crate::explained::Side;
+use crate::explained::Sides;
+use moments::pair::Pair;
+use moments::rule::DirectRule;
+use moments::rule::YieldRule;
+use moments::triad::Triad;
+
+// The yield criterion: the product of the two margins is at least the square of the twisting moment.
+#[derive(Clone, Copy, PartialEq, Eq, Debug)]
+pub struct Yield;
+
+pub impl YieldRule for Yield as YieldPasses {
+    ghost meaning = { λ _. yield-meaning };
+
+    fn ceiling(&self) -> u32 {
+        CEILING
+    }
+
+    fn passes(&self, triad: Triad, pair: Pair) -> bool
+        ensures answer { λ r. ⌜ r ≡ passed yield-meaning triad (pair .mx) (pair .my) ⌝ }
+        ensures criterion { λ r. ⌜ (T (in-limits triad) → pair .mx ≤ delivered-ceiling → pair .my ≤ delivered-ceiling → Decides r (Yields triad (pair .mx) (pair .my))) ⌝ }
+    {
+        triad.in_limits() && pair.mx <= CEILING && pair.my <= CEILING && yields(triad, pair)
+    }
+}
+
+pub impl DirectRule for Yield as YieldPartners {
+    fn least_my(&self, triad: Triad, mx: u32) -> Option<u32> {
+        least_partner(triad, mx)
+    }
+
+    fn least_mx(&self, triad: Triad, my: u32) -> Option<u32> {
+        least_partner(triad.exchanged(), my)
+    }
+}
+
+pub impl Explained for Yield as YieldExplained {
+    ghost inequalities = { λ _. yield-sides };
+
+    fn sides(&self, triad: Triad, pair: Pair) -> Option<Sides> {
+        if !triad.in_limits() || CEILING < pair.mx || CEILING < pair.my {
+            return None;
+        }
+        Some(both_sides(triad, pair))
+    }
+}
+
+fn yields(triad: Triad, pair: Pair) -> bool
+    requires limits { ⌜ T (in-limits triad) ⌝ }
+    requires mx { ⌜ pair .mx ≤ delivered-ceiling ⌝ }
+    requires my { ⌜ pair .my ≤ delivered-ceiling ⌝ }
+    ensures { λ r. ⌜ r ≡ yields-at triad (pair .mx) (pair .my) ⌝ }
+{
+    let Some(x) = margin(pair.mx, triad.mx) else {
+        return false;
+    };
+    let Some(y) = margin(pair.my, triad.my) else {
+        return false;
+    };
+    square(triad.mxy) <= x * y
+}
+
+// The least my that goes with mx.
+fn least_partner(triad: Triad, mx: u32) -> Option<u32>
+    ensures { λ r. ⌜ Partner delivered-ceiling (λ y. passed yield-meaning triad mx y) r ⌝ }
+{
+    if !triad.in_limits() || CEILING < mx {
+        return None;
+    }
+    let room = margin(mx, triad.mx)?;
+    let rise = least_factor(room, square(triad.mxy))?;
+    least_reaching(triad.my, rise)
+}
+
+// Both sides of each inequality of the criterion.
+fn both_sides(triad: Triad, pair: Pair) -> Sides
+    requires limits { ⌜ T (in-limits triad) ⌝ }
+    requires mx { ⌜ pair .mx ≤ delivered-ceiling ⌝ }
+    requires my { ⌜ pair .my ≤ delivered-ceiling ⌝ }
+    ensures { λ r. ⌜ r ≡ yield-sides triad (pair .mx) (pair .my) ⌝ }
+{
+    Sides {
+        mx: side(pair.mx, i64::from(triad.mx)),
+        my: side(pair.my, i64::from(triad.my)),
+        product: Some(product(triad, pair)),
+    }
+}
+
+// The product of the two margins against the square of the twisting moment.
+fn product(triad: Triad, pair: Pair) -> Side
+    requires limits { ⌜ T (in-limits triad) ⌝ }
+    requires mx { ⌜ pair .mx ≤ delivered-ceiling ⌝ }
+    requires my { ⌜ pair .my ≤ delivered-ceiling ⌝ }
+    ensures { λ r. ⌜ r ≡ product-side triad (pair .mx) (pair .my) ⌝ }
+{
+    let x = excess(pair.mx, triad.mx);
+    let y = excess(pair.my, triad.my);
+    Side {
+        given: times(x, y),
+        needed: times(triad.mxy, triad.mxy),
+    }
+}

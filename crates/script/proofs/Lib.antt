@@ -1,0 +1,6 @@
+pub mod Cutting
+pub mod Digits
+pub mod Comments
+pub mod Spelling
+pub mod Decimals
+pub mod Writing

@@ -1,0 +1,12 @@
+// The text scripts that the work on a slab can be written in, line by line.
+pub mod command;
+mod keywords;
+pub mod laws;
+pub mod lines;
+pub mod numbers;
+mod reading;
+mod runs;
+#[cfg(test)]
+mod tests;
+pub mod unreadable;
+mod words;

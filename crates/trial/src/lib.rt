@@ -1,0 +1,7 @@
+// Trial pairs against load cases: what the `account` program decides.
+pub mod case;
+pub mod cases;
+pub mod reply;
+pub mod session;
+pub mod tried;
+pub mod trouble;
