@@ -2,6 +2,8 @@
 mod report;
 mod wording;
 
+use moments::limits::LAST_CASE;
+use moments::limits::MOMENT_LIMIT;
 use report::show;
 use script::lines::split_line;
 use std::error::AnyError;

@@ -1,8 +1,8 @@
 // The account, as it is printed.
+use crate::wording::complaint;
 use crate::wording::face_name;
+use crate::wording::reason;
 use crate::wording::rule_name;
-use crate::wording::show_complaint;
-use crate::wording::show_reason;
 use moments::pair::Face;
 use moments::pair::Pair;
 use moments::refusal::Refusal;
@@ -41,8 +41,8 @@ pub fn show(rt: LibcRuntime, line: u64, session: &Session, reply: Reply) -> io::
 
 fn show_unreadable(rt: LibcRuntime, line: u64, unreadable: Unreadable) -> io::Result<()> {
     let column = unreadable.place.saturating_add(1);
-    print!(rt, "line {line}: can't be read at column {column}: ")?;
-    show_complaint(rt, unreadable.why)
+    let wrong = complaint(unreadable.why);
+    println!(rt, "line {line}: can't be read at column {column}: {wrong}")
 }
 
 fn show_rules(rt: LibcRuntime, line: u64, bottom: Chosen, top: Chosen) -> io::Result<()> {
@@ -72,8 +72,8 @@ fn show_entered(
 
 fn show_refusal(rt: LibcRuntime, refusal: Refusal) -> io::Result<()> {
     let number = refusal.number();
-    print!(rt, " refused ({number}): ")?;
-    show_reason(rt, refusal)
+    let why = reason(refusal);
+    println!(rt, " refused ({number}): {why}")
 }
 
 fn show_triad(rt: LibcRuntime, triad: Triad) -> io::Result<()> {

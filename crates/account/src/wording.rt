@@ -1,12 +1,8 @@
 // The words of the account.
-use moments::limits::LAST_CASE;
-use moments::limits::MOMENT_LIMIT;
 use moments::pair::Face;
 use moments::refusal::Refusal;
 use rules::chosen::Chosen;
-use script::numbers::LARGEST_NUMBER;
 use script::unreadable::Why;
-use std::io;
 
 pub fn face_name(face: Face) -> &'static str {
     match face {
@@ -26,28 +22,25 @@ pub fn rule_name(face: Face, rule: Chosen) -> &'static str {
 }
 
 // What is wrong with a line that can't be read.
-pub fn show_complaint(rt: LibcRuntime, why: Why) -> io::Result<()> {
+pub fn complaint(why: Why) -> &'static str {
     match why {
-        Why::UnknownCommand => println!(rt, "no command; write rules, enter or check"),
-        Why::MissingWord => println!(rt, "a word is missing"),
-        Why::NotAWhole => println!(rt, "no whole number from 0 to {LARGEST_NUMBER}"),
-        Why::NotASigned => println!(
-            rt,
-            "no whole number from -{LARGEST_NUMBER} to {LARGEST_NUMBER}"
-        ),
-        Why::UnknownRule => println!(rt, "no rule; write yield or box"),
-        Why::UnknownFace => println!(rt, "no face; write bottom or top"),
-        Why::TooManyWords => println!(rt, "a word too many"),
+        Why::UnknownCommand => "no command; write rules, enter or check",
+        Why::MissingWord => "a word is missing",
+        Why::NotAWhole => "no whole number, or too large",
+        Why::NotASigned => "no signed whole number, or too large",
+        Why::UnknownRule => "no rule; write yield or box",
+        Why::UnknownFace => "no face; write bottom or top",
+        Why::TooManyWords => "a word too many",
     }
 }
 
 // Why a call was refused.
-pub fn show_reason(rt: LibcRuntime, refusal: Refusal) -> io::Result<()> {
+pub fn reason(refusal: Refusal) -> &'static str {
     match refusal {
-        Refusal::CaseNumber => println!(rt, "a case number goes from 1 to {LAST_CASE}"),
-        Refusal::Moment => println!(rt, "a moment goes from -{MOMENT_LIMIT} to {MOMENT_LIMIT}"),
-        Refusal::Standing => println!(rt, "a case of this number stands already"),
-        Refusal::TrialAboveCeiling => println!(rt, "a trial moment lies above the ceiling"),
-        _ => println!(rt, "the call is turned away"),
+        Refusal::CaseNumber => "its case number is out of range",
+        Refusal::Moment => "a moment is outside its limits",
+        Refusal::Standing => "a case of this number stands already",
+        Refusal::TrialAboveCeiling => "a trial moment lies above the ceiling",
+        _ => "it is turned away",
     }
 }

@@ -6,7 +6,7 @@ use moments::pair::Face;
 use rules::chosen::Chosen;
 
 // A command by its name.
-#[derive(Clone, Copy, PartialEq, Eq, Debug)]
+#[derive(Clone, Copy)]
 pub enum Name {
     Rules,
     Enter,

@@ -3,7 +3,7 @@ ghost use Rattle.std.specs.shelf.Lists.{leading};
 ghost use Rattle.script.specs.Runs.{is-blank, belongs, front, past};
 
 // The runs of bytes that a script is cut into.
-#[derive(Clone, Copy, PartialEq, Eq, Debug)]
+#[derive(Clone, Copy)]
 pub enum Run {
     // blanks
     Gap,

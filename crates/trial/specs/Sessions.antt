@@ -11,6 +11,7 @@ use Rattle.moments.specs.Triads.{negated-triad}
 use Rattle.moments.specs.Turning.{turned-over}
 use Rattle.moments.specs.declared.pair.Face.{Face}
 use Rattle.moments.specs.declared.pair.Face.the-variants.{Bottom, Top}
+use Rattle.moments.specs.declared.pair.Pair.{Pair}
 use Rattle.moments.specs.declared.triad.Triad.{Triad}
 use Rattle.rules.specs.Criteria.{chosen-meaning, chosen-sides}
 use Rattle.rules.specs.declared.chosen.Chosen.{Chosen}
@@ -19,7 +20,7 @@ use Rattle.rules.specs.declared.explained.Sides.{Sides}
 use Rattle.script.specs.declared.command.Command.{Command}
 use Rattle.script.specs.declared.command.Command.the-variants as command
 use Rattle.script.specs.declared.unreadable.Unreadable.{Unreadable}
-use Rattle.trial.specs.Checking.{checked}
+use Rattle.trial.specs.Checking.{checked, Lowest-named}
 use Rattle.trial.specs.Entering.{list-of, Entering}
 use Rattle.trial.specs.declared.case.Case.{Case}
 use Rattle.trial.specs.declared.reply.Reply.{Reply}
@@ -62,11 +63,16 @@ pub record Entered-into (h : Held) (n : ℕ) (t : Triad) (r : Result (Unit {0}) 
   pub bottom-stays : k .bottom ≡ h .bottom
   pub top-stays : k .top ≡ h .top
 
+-- a check replies by the face's rule, and the case that it names is the lowest that fails
+pub record Answered (m : Meaning) (cs : List Case) (f : Face) (p : Pair) (r : Reply) : Type 0 where
+  pub value : r ≡ reply.Checked f p (checked m p cs)
+  pub lowest : Lowest-named m p cs (checked m p cs)
+
 -- what a command replies, and what the session holds before and after
 abbrev pub Done : Held → Command → Reply → Held → Type 0
 Done h (command.Rules b t) r k = (r ≡ reply.Ruled b t) × (k ≡ with-rules b t h)
 Done h (command.Enter n t) r k = (o : Result (Unit {0}) Trouble) × (r ≡ reply.Entered n t o) × Entered-into h n t o k
-Done h (command.Check f p) r k = (r ≡ reply.Checked f p (checked (face-meaning h f) p (h .cases))) × (k ≡ h)
+Done h (command.Check f p) r k = Answered (face-meaning h f) (h .cases) f p r × (k ≡ h)
 
 -- the same of a line, by what is read in it
 abbrev pub Obeyed : Held → Result (Option Command) Unreadable → Reply → Held → Type 0

@@ -1,6 +1,6 @@
 // Trial pairs against load cases: what the `account` program decides.
 pub mod case;
-pub mod cases;
+mod cases;
 pub mod reply;
 pub mod session;
 pub mod tried;

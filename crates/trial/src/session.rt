@@ -61,7 +61,7 @@ impl Session {
     }
 
     // Chooses the rule of each face; the cases stay.
-    pub fn set_rules(&mut self, bottom: Chosen, top: Chosen)
+    fn set_rules(&mut self, bottom: Chosen, top: Chosen)
         ensures { λ _. ⌜ held (now (self .exit)) ≡ with-rules bottom top (held (now (self .entry))) ⌝ }
     {
         self.bottom = bottom;
@@ -69,14 +69,14 @@ impl Session {
     }
 
     // Enters a load case; the rules stay.
-    pub fn enter(&mut self, number: u32, triad: Triad) -> Result<(), Trouble>
+    fn enter(&mut self, number: u32, triad: Triad) -> Result<(), Trouble>
         ensures { λ r. ⌜ Entered-into (held (now (self .entry))) number triad r (held (now (self .exit))) ⌝ }
     {
         self.cases.enter(number, triad)
     }
 
     // The first case that fails the trial pair on a face, or none; refused where a trial moment is above the ceiling.
-    pub fn check(&self, face: Face, pair: Pair) -> Result<Option<u32>, Refusal>
+    fn check(&self, face: Face, pair: Pair) -> Result<Option<u32>, Refusal>
         ensures value { λ r. ⌜ r ≡ checked (face-meaning (held (now (self .entry))) face) pair (held (now (self .entry)) .cases) ⌝ }
         ensures lowest { λ r. ⌜ Lowest-named (face-meaning (held (now (self .entry))) face) pair (held (now (self .entry)) .cases) r ⌝ }
     {
@@ -97,7 +97,7 @@ impl Session {
     }
 
     // Does what a command asks for.
-    pub fn carry_out(&mut self, command: Command) -> Reply
+    fn carry_out(&mut self, command: Command) -> Reply
         ensures { λ r. ⌜ Done (held (now (self .entry))) command r (held (now (self .exit))) ⌝ }
     {
         match command {
@@ -124,7 +124,7 @@ impl Session {
         }
     }
 
-    // Does what one line of a script asks for; a line that can't be read changes nothing.
+    // Does what one line of a script asks for; a line that can't be read, and a refused one, changes nothing.
     pub fn obey(&mut self, line: &[u8]) -> Reply
         ensures { λ r. ⌜ Obeyed (held (now (self .entry))) (command-of (now (line .entry))) r (held (now (self .exit))) ⌝ }
     {

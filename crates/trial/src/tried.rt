@@ -3,11 +3,9 @@ use moments::pair::Pair;
 use moments::triad::Triad;
 use rules::explained::Explained;
 use rules::explained::Sides;
-use rules::explained::SidesDebug;
-use rules::explained::SidesPartialEq;
 
 // What one load case says to a trial pair: whether it passes, both sides of each inequality, and the least partner of each moment.
-#[derive(Clone, Copy, PartialEq, Eq, Debug)]
+#[derive(Clone, Copy)]
 pub struct Trial {
     pub passed: bool,
     pub sides: Sides,
@@ -16,7 +14,7 @@ pub struct Trial {
 }
 
 // Tries a pair on one load case; none where the triad is out of limits or a moment is above the rule's ceiling.
-pub fn try_pair<R: Explained>(rule: &R, triad: Triad, pair: Pair) -> Option<Trial>
+pub(crate) fn try_pair<R: Explained>(rule: &R, triad: Triad, pair: Pair) -> Option<Trial>
     ensures { λ r. ⌜ Tried (R·YieldRule .meaning (now (rule .entry))) (R·Explained .inequalities (now (rule .entry))) triad pair r ⌝ }
 {
     let sides = rule.sides(triad, pair)?;

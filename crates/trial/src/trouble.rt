@@ -1,12 +1,10 @@
 ghost use mathlib.Core.Path.{_≡_};
 ghost use Rattle.trial.specs.declared.trouble.Trouble.the-variants.{NoMemory};
 use moments::refusal::Refusal;
-use moments::refusal::RefusalDebug;
-use moments::refusal::RefusalPartialEq;
 use std::alloc::Refused;
 
 // Why a case is not entered.
-#[derive(Clone, Copy, PartialEq, Eq, Debug)]
+#[derive(Clone, Copy)]
 pub enum Trouble {
     Refused(Refusal),
     NoMemory,

@@ -8,7 +8,7 @@ use moments::rule::YieldRule;
 
 impl Cases {
     // The number of the first case that does not pass the pair by the rule; none where all pass.
-    pub fn first_failing<R: YieldRule>(&self, rule: &R, pair: Pair) -> Option<u32>
+    fn first_failing<R: YieldRule>(&self, rule: &R, pair: Pair) -> Option<u32>
         ensures { λ r. ⌜ r ≡ first-failing (passed-by (R·YieldRule .meaning (now (rule .entry))) pair) (list-of (now (self .entry))) ⌝ }
     {
         for case in self.as_slice() {
