@@ -21,7 +21,7 @@ fn run(rt: LibcRuntime) -> Result<(), AnyError> {
     let mut session = Session::new(rt.alloc());
     println!(
         rt,
-        "Account of trial pairs. Moments are whole units of 0.01 kNm per m."
+        "Account of trial pairs, in whole units of 0.01 kNm per m\n(moments of a load case from -{MOMENT_LIMIT} to {MOMENT_LIMIT}, case numbers from 1 to {LAST_CASE})"
     )?;
     let mut rest = script.as_slice();
     let mut number = 0u64;

@@ -3,15 +3,15 @@ use crate::wording::complaint;
 use crate::wording::face_name;
 use crate::wording::reason;
 use crate::wording::rule_name;
+use explained::chosen::Chosen;
+use explained::chosen::ChosenPasses;
+use explained::sides::Side;
+use explained::sides::Sides;
 use moments::pair::Face;
 use moments::pair::Pair;
 use moments::refusal::Refusal;
 use moments::rule::YieldRule;
 use moments::triad::Triad;
-use rules::chosen::Chosen;
-use rules::chosen::ChosenPasses;
-use rules::explained::Side;
-use rules::explained::Sides;
 use script::unreadable::Unreadable;
 use std::io;
 use trial::case::Case;
@@ -61,7 +61,7 @@ fn show_entered(
     triad: Triad,
     outcome: Result<(), Trouble>,
 ) -> io::Result<()> {
-    print!(rt, "line {line}: case {number}")?;
+    print!(rt, "line {line}: case {number} ")?;
     show_triad(rt, triad)?;
     match outcome {
         Ok(()) => println!(rt, " entered"),
@@ -80,7 +80,7 @@ fn show_triad(rt: LibcRuntime, triad: Triad) -> io::Result<()> {
     let mx = triad.mx;
     let my = triad.my;
     let mxy = triad.mxy;
-    print!(rt, " (Mx {mx}, My {my}, Mxy {mxy})")
+    print!(rt, "(Mx {mx}, My {my}, Mxy {mxy})")
 }
 
 // A trial pair on a face: what each case says to it, and which case fails first.
@@ -92,7 +92,7 @@ fn show_checked(
     pair: Pair,
     outcome: Result<Option<u32>, Refusal>,
 ) -> io::Result<()> {
-    show_question(rt, line, session, face, pair)?;
+    show_question(rt, line, session.rule(face), face, pair)?;
     match outcome {
         Ok(failing) => {
             println!(rt, "")?;
@@ -110,11 +110,10 @@ fn show_checked(
 fn show_question(
     rt: LibcRuntime,
     line: u64,
-    session: &Session,
+    rule: Chosen,
     face: Face,
     pair: Pair,
 ) -> io::Result<()> {
-    let rule = session.rule(face);
     let at = face_name(face);
     let by = rule_name(face, rule);
     let ceiling = rule.ceiling();
@@ -135,13 +134,9 @@ fn show_verdict(rt: LibcRuntime, failing: Option<u32>) -> io::Result<()> {
 
 fn show_trial(rt: LibcRuntime, case: Case, pair: Pair, trial: Trial) -> io::Result<()> {
     let number = case.number;
-    print!(rt, "  case {number}")?;
+    let verdict = if trial.passed { "passes" } else { "fails" };
+    print!(rt, "  case {number} {verdict} ")?;
     show_triad(rt, case.triad)?;
-    if trial.passed {
-        println!(rt, " passes")?;
-    } else {
-        println!(rt, " fails")?;
-    }
     show_sides(rt, trial.sides)?;
     show_partner(rt, "my", "mx", pair.mx, trial.least_my)?;
     show_partner(rt, "mx", "my", pair.my, trial.least_mx)
@@ -149,26 +144,19 @@ fn show_trial(rt: LibcRuntime, case: Case, pair: Pair, trial: Trial) -> io::Resu
 
 // Both sides of each inequality.
 fn show_sides(rt: LibcRuntime, sides: Sides) -> io::Result<()> {
-    print!(rt, "    mx ")?;
-    show_side(rt, sides.mx)?;
-    print!(rt, ", my ")?;
-    show_side(rt, sides.my)?;
+    show_side(rt, "\n    mx", sides.mx)?;
+    show_side(rt, ", my", sides.my)?;
     if let Some(product) = sides.product {
-        print!(rt, ", product of both margins ")?;
-        show_side(rt, product)?;
-        print!(rt, " (Mxy squared)")?;
+        show_side(rt, ", product of both margins against Mxy squared", product)?;
     }
     println!(rt, "")
 }
 
-fn show_side(rt: LibcRuntime, side: Side) -> io::Result<()> {
+fn show_side(rt: LibcRuntime, name: &str, side: Side) -> io::Result<()> {
     let given = side.given;
     let needed = side.needed;
-    if side.holds() {
-        print!(rt, "{given} >= {needed}")
-    } else {
-        print!(rt, "{given} < {needed}")
-    }
+    let sign = if side.holds() { ">=" } else { "<" };
+    print!(rt, "{name} {given} {sign} {needed}")
 }
 
 fn show_partner(

@@ -1,7 +1,7 @@
 // The words of the account.
+use explained::chosen::Chosen;
 use moments::pair::Face;
 use moments::refusal::Refusal;
-use rules::chosen::Chosen;
 use script::unreadable::Why;
 
 pub fn face_name(face: Face) -> &'static str {

@@ -1,4 +1,3 @@
-pub mod Holding
 pub mod Criteria
 pub mod Directions
 pub mod Readings

@@ -5,14 +5,10 @@ ghost use Rattle.moments.specs.Triads.{in-limits};
 ghost use Rattle.std.specs.Orderings.{Decides};
 ghost use Rattle.moments.specs.Partners.{Partner};
 ghost use Rattle.moments.specs.Meanings.{passed};
-ghost use Rattle.rules.specs.Criteria.{delivered-ceiling, boxed-at, box-sides, box-meaning, Boxed};
+ghost use Rattle.rules.specs.Criteria.{delivered-ceiling, boxed-at, box-meaning, Boxed};
 use crate::direction::CEILING;
 use crate::direction::least_reaching;
 use crate::direction::reaches;
-use crate::direction::side;
-use crate::direction::topped;
-use crate::explained::Explained;
-use crate::explained::Sides;
 use moments::pair::Pair;
 use moments::rule::DirectRule;
 use moments::rule::YieldRule;
@@ -47,17 +43,6 @@ pub impl DirectRule for BoxRule as BoxPartners {
     }
 }
 
-pub impl Explained for BoxRule as BoxExplained {
-    ghost inequalities = { λ _. box-sides };
-
-    fn sides(&self, triad: Triad, pair: Pair) -> Option<Sides> {
-        if !triad.in_limits() || CEILING < pair.mx || CEILING < pair.my {
-            return None;
-        }
-        Some(both_sides(triad, pair))
-    }
-}
-
 fn boxed(triad: Triad, pair: Pair) -> bool
     ensures { λ r. ⌜ r ≡ boxed-at triad (pair .mx) (pair .my) ⌝ }
 {
@@ -77,17 +62,5 @@ fn least_partner(triad: Triad, mx: u32) -> Option<u32>
         least_reaching(triad.my, twist as u64)
     } else {
         None
-    }
-}
-
-// Both sides of each inequality of the box.
-fn both_sides(triad: Triad, pair: Pair) -> Sides
-    ensures { λ r. ⌜ r ≡ box-sides triad (pair .mx) (pair .my) ⌝ }
-{
-    let twist = triad.mxy.unsigned_abs();
-    Sides {
-        mx: side(pair.mx, topped(triad.mx, twist)),
-        my: side(pair.my, topped(triad.my, twist)),
-        product: None,
     }
 }

@@ -1,22 +1,18 @@
 // One bar direction at a time: a yield moment against a bending moment.
 ghost use mathlib.Core.Path.{_≡_};
-ghost use Prim.Native.Nat.{_*_, _≤_};
-ghost use lib.Dec.{T};
-ghost use lib.IntN.{pos, natAbs, _+ℤ_, _-ℤ_, _*ℤ_};
+ghost use Prim.Native.Nat.{_*_};
+ghost use lib.IntN.{pos, natAbs, _+ℤ_};
 ghost use lib.Signed.{leZ};
 ghost use Rattle.moments.specs.Partners.{Partner};
-ghost use Rattle.moments.specs.Triads.{in-range};
 ghost use Rattle.rules.specs.Directions.{Margin, Factor};
-ghost use Rattle.rules.specs.Holding.{inequality};
 ghost use Rattle.rules.specs.Criteria.{delivered-ceiling};
-use crate::explained::Side;
 use moments::limits::MOMENT_LIMIT;
 
 // The ceiling of the delivered rules: twice the largest moment of a load case.
 pub const CEILING: u32 = 2 * MOMENT_LIMIT as u32;
 
 // How far a yield moment stands above a bending moment; none where it stands below.
-pub fn margin(moment: u32, bending: i32) -> Option<u64>
+pub(crate) fn margin(moment: u32, bending: i32) -> Option<u64>
     ensures { λ r. ⌜ Margin moment bending r ⌝ }
 {
     let difference = moment as i64 - bending as i64;
@@ -27,22 +23,15 @@ pub fn margin(moment: u32, bending: i32) -> Option<u64>
     }
 }
 
-// A bending moment with `more` on top.
-pub fn topped(bending: i32, more: u32) -> i64
-    ensures { λ r. ⌜ r ≡ bending +ℤ pos more ⌝ }
-{
-    bending as i64 + more as i64
-}
-
 // Whether a yield moment reaches a bending moment with `more` on top.
-pub fn reaches(moment: u32, bending: i32, more: u32) -> bool
+pub(crate) fn reaches(moment: u32, bending: i32, more: u32) -> bool
     ensures { λ r. ⌜ r ≡ leZ (bending +ℤ pos more) (pos moment) ⌝ }
 {
-    topped(bending, more) <= moment as i64
+    bending as i64 + more as i64 <= moment as i64
 }
 
 // The least yield moment that reaches a bending moment with `more` on top; none where the ceiling does not.
-pub fn least_reaching(bending: i32, more: u64) -> Option<u32>
+pub(crate) fn least_reaching(bending: i32, more: u64) -> Option<u32>
     ensures { λ r. ⌜ Partner delivered-ceiling (λ m. leZ (bending +ℤ pos more) (pos m)) r ⌝ }
 {
     let least = more.saturating_add_signed(bending as i64);
@@ -54,7 +43,7 @@ pub fn least_reaching(bending: i32, more: u64) -> Option<u32>
 }
 
 // The least number that, times `factor`, is at least `product`; none where there is none.
-pub fn least_factor(factor: u64, product: u64) -> Option<u64>
+pub(crate) fn least_factor(factor: u64, product: u64) -> Option<u64>
     ensures { λ r. ⌜ Factor factor product r ⌝ }
 {
     if factor != 0 {
@@ -66,34 +55,9 @@ pub fn least_factor(factor: u64, product: u64) -> Option<u64>
     }
 }
 
-pub fn square(moment: i32) -> u64
+pub(crate) fn square(moment: i32) -> u64
     ensures { λ r. ⌜ r ≡ natAbs moment * natAbs moment ⌝ }
 {
     let size = moment.unsigned_abs() as u64;
     size * size
-}
-
-// How far a yield moment stands above a bending moment, below 0 where it stands below.
-pub fn excess(moment: u32, bending: i32) -> i32
-    requires moment { ⌜ moment ≤ delivered-ceiling ⌝ }
-    requires bending { ⌜ T (in-range bending) ⌝ }
-    ensures { λ r. ⌜ r ≡ pos moment -ℤ bending ⌝ }
-{
-    moment as i32 - bending
-}
-
-pub fn times(a: i32, b: i32) -> i64
-    ensures { λ r. ⌜ r ≡ a *ℤ b ⌝ }
-{
-    a as i64 * b as i64
-}
-
-// The inequality that a yield moment is at least what is needed.
-pub fn side(moment: u32, needed: i64) -> Side
-    ensures { λ r. ⌜ r ≡ inequality (pos moment) needed ⌝ }
-{
-    Side {
-        given: moment as i64,
-        needed,
-    }
 }

@@ -5,18 +5,12 @@ ghost use Rattle.std.specs.Orderings.{Decides};
 ghost use Rattle.moments.specs.Partners.{Partner};
 ghost use Rattle.moments.specs.Meanings.{passed};
 ghost use Rattle.moments.specs.Triads.{in-limits};
-ghost use Rattle.rules.specs.Criteria.{delivered-ceiling, yields-at, product-side, yield-sides, yield-meaning, Yields};
+ghost use Rattle.rules.specs.Criteria.{delivered-ceiling, yields-at, yield-meaning, Yields};
 use crate::direction::CEILING;
-use crate::direction::excess;
 use crate::direction::least_factor;
 use crate::direction::least_reaching;
 use crate::direction::margin;
-use crate::direction::side;
 use crate::direction::square;
-use crate::direction::times;
-use crate::explained::Explained;
-use crate::explained::Side;
-use crate::explained::Sides;
 use moments::pair::Pair;
 use moments::rule::DirectRule;
 use moments::rule::YieldRule;
@@ -51,17 +45,6 @@ pub impl DirectRule for Yield as YieldPartners {
     }
 }
 
-pub impl Explained for Yield as YieldExplained {
-    ghost inequalities = { λ _. yield-sides };
-
-    fn sides(&self, triad: Triad, pair: Pair) -> Option<Sides> {
-        if !triad.in_limits() || CEILING < pair.mx || CEILING < pair.my {
-            return None;
-        }
-        Some(both_sides(triad, pair))
-    }
-}
-
 fn yields(triad: Triad, pair: Pair) -> bool
     requires limits { ⌜ T (in-limits triad) ⌝ }
     requires mx { ⌜ pair .mx ≤ delivered-ceiling ⌝ }
@@ -87,33 +70,4 @@ fn least_partner(triad: Triad, mx: u32) -> Option<u32>
     let room = margin(mx, triad.mx)?;
     let rise = least_factor(room, square(triad.mxy))?;
     least_reaching(triad.my, rise)
-}
-
-// Both sides of each inequality of the criterion.
-fn both_sides(triad: Triad, pair: Pair) -> Sides
-    requires limits { ⌜ T (in-limits triad) ⌝ }
-    requires mx { ⌜ pair .mx ≤ delivered-ceiling ⌝ }
-    requires my { ⌜ pair .my ≤ delivered-ceiling ⌝ }
-    ensures { λ r. ⌜ r ≡ yield-sides triad (pair .mx) (pair .my) ⌝ }
-{
-    Sides {
-        mx: side(pair.mx, i64::from(triad.mx)),
-        my: side(pair.my, i64::from(triad.my)),
-        product: Some(product(triad, pair)),
-    }
-}
-
-// The product of the two margins against the square of the twisting moment.
-fn product(triad: Triad, pair: Pair) -> Side
-    requires limits { ⌜ T (in-limits triad) ⌝ }
-    requires mx { ⌜ pair .mx ≤ delivered-ceiling ⌝ }
-    requires my { ⌜ pair .my ≤ delivered-ceiling ⌝ }
-    ensures { λ r. ⌜ r ≡ product-side triad (pair .mx) (pair .my) ⌝ }
-{
-    let x = excess(pair.mx, triad.mx);
-    let y = excess(pair.my, triad.my);
-    Side {
-        given: times(x, y),
-        needed: times(triad.mxy, triad.mxy),
-    }
 }

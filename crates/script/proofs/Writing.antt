@@ -7,8 +7,8 @@ use lib.ListN.{drop}
 use Rattle.std.specs.Written.{decimal, signed}
 use Rattle.moments.specs.declared.pair.Face.{Face}
 use Rattle.moments.specs.declared.pair.Face.the-variants as face
-use Rattle.rules.specs.declared.chosen.Chosen.{Chosen}
-use Rattle.rules.specs.declared.chosen.Chosen.the-variants as chosen
+use Rattle.explained.specs.declared.chosen.Chosen.{Chosen}
+use Rattle.explained.specs.declared.chosen.Chosen.the-variants as chosen
 use Rattle.script.specs.declared.command.Command.the-variants as command
 use Rattle.script.specs.Keywords.{rule-of, face-of}
 use Rattle.script.specs.Laws.{rule-word, face-word, Written-is-read}

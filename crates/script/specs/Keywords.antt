@@ -8,8 +8,8 @@ use Rattle.std.specs.declared.option.Option.{Option}
 use Rattle.std.specs.declared.option.Option.the-variants.{Some, None}
 use Rattle.moments.specs.declared.pair.Face.{Face}
 use Rattle.moments.specs.declared.pair.Face.the-variants as face
-use Rattle.rules.specs.declared.chosen.Chosen.{Chosen}
-use Rattle.rules.specs.declared.chosen.Chosen.the-variants as chosen
+use Rattle.explained.specs.declared.chosen.Chosen.{Chosen}
+use Rattle.explained.specs.declared.chosen.Chosen.the-variants as chosen
 use Rattle.script.specs.declared.keywords.Name.{Name}
 use Rattle.script.specs.declared.keywords.Name.the-variants as name
 

@@ -10,8 +10,8 @@ use Rattle.std.specs.declared.option.Option.the-variants.{Some}
 use Rattle.std.specs.declared.result.Result.the-variants.{Ok}
 use Rattle.moments.specs.declared.pair.Face.{Face}
 use Rattle.moments.specs.declared.pair.Face.the-variants as face
-use Rattle.rules.specs.declared.chosen.Chosen.{Chosen}
-use Rattle.rules.specs.declared.chosen.Chosen.the-variants as chosen
+use Rattle.explained.specs.declared.chosen.Chosen.{Chosen}
+use Rattle.explained.specs.declared.chosen.Chosen.the-variants as chosen
 use Rattle.script.specs.declared.command.Command.{Command}
 use Rattle.script.specs.declared.command.Command.the-variants as command
 use Rattle.script.specs.Numbers.{largest}

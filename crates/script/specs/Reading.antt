@@ -10,7 +10,7 @@ use Rattle.std.specs.declared.option.Option.{Option}
 use Rattle.std.specs.declared.result.Result.{Result}
 use Rattle.std.specs.declared.result.Result.the-variants.{Ok, Err}
 use Rattle.moments.specs.declared.pair.Face.{Face}
-use Rattle.rules.specs.declared.chosen.Chosen.{Chosen}
+use Rattle.explained.specs.declared.chosen.Chosen.{Chosen}
 use Rattle.script.specs.declared.words.Stuck.{Stuck}
 use Rattle.script.specs.declared.unreadable.Why.{Why}
 use Rattle.script.specs.declared.unreadable.Why.the-variants.{MissingWord, NotAWhole, NotASigned, UnknownRule, UnknownFace, TooManyWords}

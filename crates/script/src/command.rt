@@ -1,3 +1,6 @@
+use explained::chosen::Chosen;
+use explained::chosen::ChosenDebug;
+use explained::chosen::ChosenPartialEq;
 use moments::pair::Face;
 use moments::pair::FaceDebug;
 use moments::pair::FacePartialEq;
@@ -7,9 +10,6 @@ use moments::pair::PairPartialEq;
 use moments::triad::Triad;
 use moments::triad::TriadDebug;
 use moments::triad::TriadPartialEq;
-use rules::chosen::Chosen;
-use rules::chosen::ChosenDebug;
-use rules::chosen::ChosenPartialEq;
 
 // What a line of a script asks for.
 #[derive(Clone, Copy, PartialEq, Eq, Debug)]

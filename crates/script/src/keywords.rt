@@ -2,8 +2,8 @@
 ghost use mathlib.Core.Path.{_≡_};
 ghost use Rattle.std.specs.shelf.Text.{sameBytes};
 ghost use Rattle.script.specs.Keywords.{name-of, rule-of, face-of};
+use explained::chosen::Chosen;
 use moments::pair::Face;
-use rules::chosen::Chosen;
 
 // A command by its name.
 #[derive(Clone, Copy)]

@@ -6,7 +6,5 @@ pub mod lines;
 pub mod numbers;
 mod reading;
 mod runs;
-#[cfg(test)]
-mod tests;
 pub mod unreadable;
 mod words;

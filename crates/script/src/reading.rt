@@ -16,10 +16,10 @@ use crate::unreadable::Why;
 use crate::words::Stuck;
 use crate::words::Word;
 use crate::words::Words;
+use explained::chosen::Chosen;
 use moments::pair::Face;
 use moments::pair::Pair;
 use moments::triad::Triad;
-use rules::chosen::Chosen;
 
 impl Word<'_> {
     // The word as one that cannot be read.

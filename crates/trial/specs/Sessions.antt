@@ -13,10 +13,10 @@ use Rattle.moments.specs.declared.pair.Face.{Face}
 use Rattle.moments.specs.declared.pair.Face.the-variants.{Bottom, Top}
 use Rattle.moments.specs.declared.pair.Pair.{Pair}
 use Rattle.moments.specs.declared.triad.Triad.{Triad}
-use Rattle.rules.specs.Criteria.{chosen-meaning, chosen-sides}
-use Rattle.rules.specs.declared.chosen.Chosen.{Chosen}
-use Rattle.rules.specs.declared.chosen.Chosen.the-variants as chosen
-use Rattle.rules.specs.declared.explained.Sides.{Sides}
+use Rattle.explained.specs.Inequalities.{chosen-meaning, chosen-sides}
+use Rattle.explained.specs.declared.chosen.Chosen.{Chosen}
+use Rattle.explained.specs.declared.chosen.Chosen.the-variants as chosen
+use Rattle.explained.specs.declared.sides.Sides.{Sides}
 use Rattle.script.specs.declared.command.Command.{Command}
 use Rattle.script.specs.declared.command.Command.the-variants as command
 use Rattle.script.specs.declared.unreadable.Unreadable.{Unreadable}

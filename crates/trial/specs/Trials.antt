@@ -9,8 +9,8 @@ use Rattle.moments.specs.Meanings.{Meaning, asked}
 use Rattle.moments.specs.Partners.{Least-my, Least-mx}
 use Rattle.moments.specs.declared.pair.Pair.{Pair}
 use Rattle.moments.specs.declared.triad.Triad.{Triad}
-use Rattle.rules.specs.Holding.{all-hold}
-use Rattle.rules.specs.declared.explained.Sides.{Sides}
+use Rattle.explained.specs.Holding.{all-hold}
+use Rattle.explained.specs.declared.sides.Sides.{Sides}
 use Rattle.trial.specs.declared.tried.Trial.{Trial}
 
 -- by the rule's meaning and its inequalities: both say the same of passing

@@ -1,9 +1,9 @@
 use crate::trouble::Trouble;
+use explained::chosen::Chosen;
 use moments::pair::Face;
 use moments::pair::Pair;
 use moments::refusal::Refusal;
 use moments::triad::Triad;
-use rules::chosen::Chosen;
 use script::unreadable::Unreadable;
 
 // What came of one line of a script.

@@ -1,8 +1,8 @@
 ghost use Rattle.trial.specs.Trials.{Tried};
+use explained::sides::Explained;
+use explained::sides::Sides;
 use moments::pair::Pair;
 use moments::triad::Triad;
-use rules::explained::Explained;
-use rules::explained::Sides;
 
 // What one load case says to a trial pair: whether it passes, both sides of each inequality, and the least partner of each moment.
 #[derive(Clone, Copy)]

@@ -1,19 +1,19 @@
-// Figures worked by hand.
-use crate::box_rule::BoxPasses;
-use crate::box_rule::BoxRule;
-use crate::explained::Explained;
-use crate::explained::Side;
-use crate::explained::SideDebug;
-use crate::explained::SidePartialEq;
-use crate::yield_rule::Yield;
-use crate::yield_rule::YieldExplained;
-use crate::yield_rule::YieldPartners;
-use crate::yield_rule::YieldPasses;
+// Which pairs the delivered rules pass.
+use explained::sides::Explained;
+use explained::sides::Side;
+use explained::sides::SideDebug;
+use explained::sides::SidePartialEq;
+use explained::yield_sides::YieldExplained;
 use moments::limits::MOMENT_LIMIT;
 use moments::pair::Pair;
 use moments::rule::DirectRule;
 use moments::rule::YieldRule;
 use moments::triad::Triad;
+use rules::box_rule::BoxPasses;
+use rules::box_rule::BoxRule;
+use rules::yield_rule::Yield;
+use rules::yield_rule::YieldPartners;
+use rules::yield_rule::YieldPasses;
 use std::test::*;
 
 // Mx, My, Mxy, mx, my, and whether the yield rule passes.

@@ -1,18 +1,18 @@
-ghost use Rattle.rules.specs.Criteria.{chosen-meaning, chosen-sides};
-use crate::box_rule::BoxExplained;
-use crate::box_rule::BoxPartners;
-use crate::box_rule::BoxPasses;
-use crate::box_rule::BoxRule;
-use crate::explained::Explained;
-use crate::explained::Sides;
-use crate::yield_rule::Yield;
-use crate::yield_rule::YieldExplained;
-use crate::yield_rule::YieldPartners;
-use crate::yield_rule::YieldPasses;
+ghost use Rattle.explained.specs.Inequalities.{chosen-meaning, chosen-sides};
+use crate::box_sides::BoxExplained;
+use crate::sides::Explained;
+use crate::sides::Sides;
+use crate::yield_sides::YieldExplained;
 use moments::pair::Pair;
 use moments::rule::DirectRule;
 use moments::rule::YieldRule;
 use moments::triad::Triad;
+use rules::box_rule::BoxPartners;
+use rules::box_rule::BoxPasses;
+use rules::box_rule::BoxRule;
+use rules::yield_rule::Yield;
+use rules::yield_rule::YieldPartners;
+use rules::yield_rule::YieldPasses;
 
 // A delivered rule, chosen by its name: it asks the rule of that name.
 #[derive(Clone, Copy, PartialEq, Eq, Debug)]

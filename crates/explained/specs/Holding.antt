@@ -4,8 +4,8 @@ use lib.IntN.{ℤ}
 use lib.Signed.{leZ}
 use Rattle.std.specs.declared.option.Option.{Option}
 use Rattle.std.specs.declared.option.Option.the-variants.{Some, None}
-use Rattle.rules.specs.declared.explained.Side.{Side}
-use Rattle.rules.specs.declared.explained.Sides.{Sides}
+use Rattle.explained.specs.declared.sides.Side.{Side}
+use Rattle.explained.specs.declared.sides.Sides.{Sides}
 
 abbrev pub inequality : ℤ → ℤ → Side
 inequality g n = record { given = g; needed = n }

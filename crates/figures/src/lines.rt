@@ -1,15 +1,16 @@
-use crate::command::Command;
-use crate::command::CommandDebug;
-use crate::command::CommandPartialEq;
-use crate::lines::read_line;
-use crate::unreadable::Unreadable;
-use crate::unreadable::UnreadableDebug;
-use crate::unreadable::UnreadablePartialEq;
-use crate::unreadable::Why;
+// Lines of a script.
+use explained::chosen::Chosen;
 use moments::pair::Face;
 use moments::pair::Pair;
 use moments::triad::Triad;
-use rules::chosen::Chosen;
+use script::command::Command;
+use script::command::CommandDebug;
+use script::command::CommandPartialEq;
+use script::lines::read_line;
+use script::unreadable::Unreadable;
+use script::unreadable::UnreadableDebug;
+use script::unreadable::UnreadablePartialEq;
+use script::unreadable::Why;
 use std::test::*;
 
 #[test]

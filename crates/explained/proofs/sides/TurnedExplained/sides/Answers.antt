@@ -6,7 +6,7 @@ use Rattle.moments.specs.Triads.{in-limits, negated-triad}
 use Rattle.moments.specs.declared.triad.Triad.{Triad}
 use Rattle.moments.proofs.Tests.{some-by-test}
 use Rattle.moments.proofs.Turning.{turned-asked, turned-passed}
-use Rattle.rules.proofs.explained.TurnedExplained.sides.Needs as need
+use Rattle.explained.proofs.sides.TurnedExplained.sides.Needs as need
 
 pub returns-in-Some : need.returns-in-Some
 returns-in-Some g c =

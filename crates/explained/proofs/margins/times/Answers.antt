@@ -5,7 +5,7 @@ use borrow.Author.Numbers.{signed-product}
 use mir.Syntax.{w32, w64}
 use mir.Val.{toZ, ofZ}
 use mir.Facts.{toZ-ofZ}
-use Rattle.rules.proofs.direction.times.Needs as need
+use Rattle.explained.proofs.margins.times.Needs as need
 
 pub returns : need.returns
 returns c =

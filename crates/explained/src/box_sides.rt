@@ -1,0 +1,36 @@
+ghost use mathlib.Core.Path.{_≡_};
+ghost use Rattle.explained.specs.Inequalities.{box-sides};
+use crate::margins::side;
+use crate::margins::topped;
+use crate::sides::Explained;
+use crate::sides::Sides;
+use moments::pair::Pair;
+use moments::rule::YieldRule;
+use moments::triad::Triad;
+use rules::box_rule::BoxPartners;
+use rules::box_rule::BoxPasses;
+use rules::box_rule::BoxRule;
+
+pub impl Explained for BoxRule as BoxExplained {
+    ghost inequalities = { λ _. box-sides };
+
+    fn sides(&self, triad: Triad, pair: Pair) -> Option<Sides> {
+        let ceiling = self.ceiling();
+        if !triad.in_limits() || ceiling < pair.mx || ceiling < pair.my {
+            return None;
+        }
+        Some(both_sides(triad, pair))
+    }
+}
+
+// Both sides of each inequality of the box.
+fn both_sides(triad: Triad, pair: Pair) -> Sides
+    ensures { λ r. ⌜ r ≡ box-sides triad (pair .mx) (pair .my) ⌝ }
+{
+    let twist = triad.mxy.unsigned_abs();
+    Sides {
+        mx: side(pair.mx, topped(triad.mx, twist)),
+        my: side(pair.my, topped(triad.my, twist)),
+        product: None,
+    }
+}
