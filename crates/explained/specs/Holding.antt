@@ -1,5 +1,5 @@
 -- When the inequalities of a rule hold. Assumes nothing.
-use mathlib.Core.Bool.{Bool, true, false, _&&_}
+use mathlib.Core.Bool.{Bool, true, _&&_}
 use lib.IntN.{ℤ}
 use lib.Signed.{leZ}
 use Rattle.std.specs.declared.option.Option.{Option}
@@ -7,6 +7,7 @@ use Rattle.std.specs.declared.option.Option.the-variants.{Some, None}
 use Rattle.explained.specs.declared.sides.Side.{Side}
 use Rattle.explained.specs.declared.sides.Sides.{Sides}
 
+-- an inequality by its two sides
 abbrev pub inequality : ℤ → ℤ → Side
 inequality g n = record { given = g; needed = n }
 
@@ -14,6 +15,7 @@ inequality g n = record { given = g; needed = n }
 abbrev pub holds : Side → Bool
 holds s = leZ (s .needed) (s .given)
 
+-- an inequality that a rule may lack
 abbrev pub holds-if-there : Option Side → Bool
 holds-if-there (Some s) = holds s
 holds-if-there None = true
@@ -21,8 +23,3 @@ holds-if-there None = true
 -- each inequality holds
 abbrev pub all-hold : Sides → Bool
 all-hold s = holds (s .mx) && (holds (s .my) && holds-if-there (s .product))
-
--- there are inequalities, and each holds
-abbrev pub held : Option Sides → Bool
-held (Some s) = all-hold s
-held None = false

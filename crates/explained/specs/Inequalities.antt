@@ -23,11 +23,12 @@ yield-sides t x y = record { mx = inequality (pos x) (t .mx); my = inequality (p
 abbrev pub box-sides : Triad → ℕ → ℕ → Sides
 box-sides t x y = record { mx = inequality (pos x) (t .mx +ℤ pos (natAbs (t .mxy))); my = inequality (pos y) (t .my +ℤ pos (natAbs (t .mxy))); product = None }
 
--- a rule that is chosen by name means what the rule of that name means, and has its inequalities
+-- a rule that is chosen by name means what the rule of that name means
 abbrev pub chosen-meaning : Chosen → Meaning
 chosen-meaning chosen.Yield = yield-meaning
 chosen-meaning chosen.Box = box-meaning
 
+-- and it has its inequalities
 abbrev pub chosen-sides : Chosen → Triad → ℕ → ℕ → Sides
 chosen-sides chosen.Yield = yield-sides
 chosen-sides chosen.Box = box-sides

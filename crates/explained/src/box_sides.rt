@@ -1,7 +1,6 @@
 ghost use mathlib.Core.Path.{_≡_};
 ghost use Rattle.explained.specs.Inequalities.{box-sides};
-use crate::margins::side;
-use crate::margins::topped;
+use crate::margins::against_topped;
 use crate::sides::Explained;
 use crate::sides::Sides;
 use moments::pair::Pair;
@@ -29,8 +28,8 @@ fn both_sides(triad: Triad, pair: Pair) -> Sides
 {
     let twist = triad.mxy.unsigned_abs();
     Sides {
-        mx: side(pair.mx, topped(triad.mx, twist)),
-        my: side(pair.my, topped(triad.my, twist)),
+        mx: against_topped(pair.mx, triad.mx, twist),
+        my: against_topped(pair.my, triad.my, twist),
         product: None,
     }
 }

@@ -8,21 +8,24 @@ ghost use Rattle.moments.specs.Triads.{in-range};
 ghost use Rattle.explained.specs.Holding.{inequality};
 use crate::sides::Side;
 
-// The inequality that a yield moment is at least what is needed.
-pub(crate) fn side(moment: u32, needed: i64) -> Side
-    ensures { λ r. ⌜ r ≡ inequality (pos moment) needed ⌝ }
+// A yield moment against a bending moment.
+pub(crate) fn against(moment: u32, bending: i32) -> Side
+    ensures { λ r. ⌜ r ≡ inequality (pos moment) bending ⌝ }
 {
     Side {
         given: moment as i64,
-        needed,
+        needed: bending as i64,
     }
 }
 
-// A bending moment with `more` on top.
-pub(crate) fn topped(bending: i32, more: u32) -> i64
-    ensures { λ r. ⌜ r ≡ bending +ℤ pos more ⌝ }
+// A yield moment against a bending moment with `more` on top.
+pub(crate) fn against_topped(moment: u32, bending: i32, more: u32) -> Side
+    ensures { λ r. ⌜ r ≡ inequality (pos moment) (bending +ℤ pos more) ⌝ }
 {
-    bending as i64 + more as i64
+    Side {
+        given: moment as i64,
+        needed: bending as i64 + more as i64,
+    }
 }
 
 // How far a yield moment stands above a bending moment, below 0 where it stands below.

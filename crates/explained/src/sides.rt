@@ -3,10 +3,10 @@ ghost use mathlib.Core.Path.{_≡_};
 ghost use mathlib.Core.Bool.{cond};
 ghost use Prim.Native.Nat.{ℕ};
 ghost use Rattle.std.specs.declared.option.Option.the-variants.{Some, None};
-ghost use Rattle.moments.specs.Meanings.{asked, passed};
+ghost use Rattle.moments.specs.Meanings.{asked};
 ghost use Rattle.moments.specs.Triads.{negated-triad};
 ghost use Rattle.moments.specs.declared.triad.Triad.{Triad};
-ghost use Rattle.explained.specs.Holding.{holds, held};
+ghost use Rattle.explained.specs.Holding.{holds, all-hold};
 ghost use Rattle.explained.specs.declared.sides.Sides.{Sides};
 use moments::pair::Pair;
 use moments::rule::DirectRule;
@@ -42,10 +42,11 @@ impl Side {
 pub trait Explained: DirectRule {
     ghost inequalities: { Self → Triad → ℕ → ℕ → Sides };
 
+    law decides: { (r : Self) (t : Triad) (x y : ℕ) → all-hold (inequalities r t x y) ≡ Self·YieldRule .meaning r .passing t x y };
+
     // Both sides of each inequality; none where the triad is out of limits or a moment is above the ceiling.
     fn sides(&self, triad: Triad, pair: Pair) -> Option<Sides>
-        ensures value { λ r. ⌜ r ≡ cond (asked (Self·YieldRule .meaning (now (self .entry))) triad (pair .mx) (pair .my)) (Some (inequalities (now (self .entry)) triad (pair .mx) (pair .my))) None ⌝ }
-        ensures decides { λ r. ⌜ held r ≡ passed (Self·YieldRule .meaning (now (self .entry))) triad (pair .mx) (pair .my) ⌝ };
+        ensures { λ r. ⌜ r ≡ cond (asked (Self·YieldRule .meaning (now (self .entry))) triad (pair .mx) (pair .my)) (Some (inequalities (now (self .entry)) triad (pair .mx) (pair .my))) None ⌝ };
 }
 
 // A rule turned over has the inequalities of the rule for the triad with all three moments negated.

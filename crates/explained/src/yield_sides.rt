@@ -4,8 +4,8 @@ ghost use Prim.Native.Nat.{_≤_};
 ghost use Rattle.moments.specs.Limits.{ceiling-limit};
 ghost use Rattle.moments.specs.Triads.{in-limits};
 ghost use Rattle.explained.specs.Inequalities.{product-side, yield-sides};
+use crate::margins::against;
 use crate::margins::excess;
-use crate::margins::side;
 use crate::margins::times;
 use crate::sides::Explained;
 use crate::sides::Side;
@@ -37,8 +37,8 @@ fn both_sides(triad: Triad, pair: Pair) -> Sides
     ensures { λ r. ⌜ r ≡ yield-sides triad (pair .mx) (pair .my) ⌝ }
 {
     Sides {
-        mx: side(pair.mx, i64::from(triad.mx)),
-        my: side(pair.my, i64::from(triad.my)),
+        mx: against(pair.mx, triad.mx),
+        my: against(pair.my, triad.my),
         product: Some(product(triad, pair)),
     }
 }

@@ -1,3 +1,3 @@
 pub mod Criteria
-pub mod Directions
+pub mod Margins
 pub mod Readings

@@ -4,7 +4,7 @@ ghost use Prim.Native.Nat.{_*_};
 ghost use lib.IntN.{pos, natAbs, _+ℤ_};
 ghost use lib.Signed.{leZ};
 ghost use Rattle.moments.specs.Partners.{Partner};
-ghost use Rattle.rules.specs.Directions.{Margin, Factor};
+ghost use Rattle.rules.specs.Margins.{Margin, Factor};
 ghost use Rattle.rules.specs.Criteria.{delivered-ceiling};
 use moments::limits::MOMENT_LIMIT;
 

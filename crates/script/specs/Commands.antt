@@ -47,5 +47,6 @@ command-at bs = next (meant name-of UnknownCommand bs) (λ k bs. next (body-at k
 abbrev pub line-from : List ℕ → Read (Option Command)
 line-from bs = cond (eqb (length bs) 0) (Ok (None, bs)) (next (command-at bs) (λ c bs. Ok (Some c, bs)))
 
+-- the same from the first word on
 abbrev pub line-at : List ℕ → Read (Option Command)
 line-at bs = line-from (past (belongs run.Gap) bs)

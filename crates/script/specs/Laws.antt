@@ -21,10 +21,12 @@ use Rattle.script.specs.Lines.{command-of}
 abbrev pub Comments-do-not-count : Type 0
 Comments-do-not-count = (bs cs : List ℕ) → command-of (bs ++ 35 ∷ cs) ≡ command-of bs
 
+-- the word for a rule
 abbrev pub rule-word : Chosen → List ℕ
 rule-word chosen.Yield = codes "yield"
 rule-word chosen.Box = codes "box"
 
+-- the word for a face
 abbrev pub face-word : Face → List ℕ
 face-word face.Bottom = codes "bottom"
 face-word face.Top = codes "top"

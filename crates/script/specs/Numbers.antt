@@ -14,6 +14,7 @@ use Rattle.std.specs.declared.option.Option.the-variants.{Some, None}
 abbrev pub largest : ℕ
 largest = 999999999
 
+-- a number that is not too large
 abbrev pub up-to-largest : ℕ → Option ℕ
 up-to-largest n = cond (leb n largest) (Some n) None
 

@@ -72,6 +72,7 @@ word-at bs = word-from (past (belongs run.Gap) bs)
 abbrev pub end-from : List ℕ → Read (Unit {0})
 end-from bs = cond (eqb (length bs) 0) (Ok (tt, bs)) (Err (record { left = length bs; why = TooManyWords }))
 
+-- the same past blanks
 abbrev pub end-at : List ℕ → Read (Unit {0})
 end-at bs = end-from (past (belongs run.Gap) bs)
 
@@ -79,14 +80,18 @@ end-at bs = end-from (past (belongs run.Gap) bs)
 abbrev pub meant : {X : Type 0} → (List ℕ → Option X) → Why → List ℕ → Read X
 meant f y bs = next (word-at bs) (λ w bs. leaving (okOr (f (w .bytes)) (stuck-at w y)) bs)
 
+-- a word that is a whole number
 abbrev pub whole-at : List ℕ → Read ℕ
 whole-at bs = meant whole-of NotAWhole bs
 
+-- a word that is a signed number
 abbrev pub signed-at : List ℕ → Read ℤ
 signed-at bs = meant signed-of NotASigned bs
 
+-- a word that names a rule
 abbrev pub rule-at : List ℕ → Read Chosen
 rule-at bs = meant rule-of UnknownRule bs
 
+-- a word that names a face
 abbrev pub face-at : List ℕ → Read Face
 face-at bs = meant face-of UnknownFace bs

@@ -3,7 +3,7 @@ pub mod command;
 mod keywords;
 pub mod laws;
 pub mod lines;
-pub mod numbers;
+mod numbers;
 mod reading;
 mod runs;
 pub mod unreadable;

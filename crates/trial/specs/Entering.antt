@@ -22,6 +22,7 @@ use Rattle.trial.specs.declared.trouble.Trouble.the-variants.{Refused, NoMemor
 abbrev pub list-of : Cases → List Case
 list-of c = vec-items (c .list)
 
+-- a case by its number and its triad
 abbrev pub case-of : ℕ → Triad → Case
 case-of n t = record { number = n; triad = t }
 

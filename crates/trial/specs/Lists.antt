@@ -16,6 +16,7 @@ is-number n = leb 1 n && leb n last-case
 abbrev pub sound : Case → Bool
 sound c = is-number (c .number) && in-limits (c .triad)
 
+-- every case is so
 abbrev pub all-sound : List Case → Bool
 all-sound [] = true
 all-sound (c ∷ cs) = sound c && all-sound cs

@@ -34,6 +34,7 @@ pub record Held : Type 0 where
   pub top : Chosen
   pub cases : List Case
 
+-- the same of a session
 abbrev pub held : Session → Held
 held s = record { bottom = s .bottom; top = s .top; cases = list-of (s .cases) }
 
@@ -41,18 +42,21 @@ held s = record { bottom = s .bottom; top = s .top; cases = list-of (s .cases) }
 abbrev pub start : Held
 start = record { bottom = chosen.Yield; top = chosen.Yield; cases = [] }
 
+-- other rules, the same cases
 abbrev pub with-rules : Chosen → Chosen → Held → Held
 with-rules b t h = record { bottom = b; top = t; cases = h .cases }
 
+-- the rule chosen for a face
 abbrev pub rule-of : Held → Face → Chosen
 rule-of h Bottom = h .bottom
 rule-of h Top = h .top
 
--- a top face takes its rule turned over
+-- what the rule of a face means: a top face takes its rule turned over
 abbrev pub face-meaning : Held → Face → Meaning
 face-meaning h Bottom = chosen-meaning (h .bottom)
 face-meaning h Top = turned-over (chosen-meaning (h .top))
 
+-- and its inequalities
 abbrev pub face-sides : Held → Face → Triad → ℕ → ℕ → Sides
 face-sides h Bottom t = chosen-sides (h .bottom) t
 face-sides h Top t = chosen-sides (h .top) (negated-triad t)

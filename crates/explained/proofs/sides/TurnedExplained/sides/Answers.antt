@@ -5,7 +5,7 @@ use Rattle.moments.specs.Meanings.{asked}
 use Rattle.moments.specs.Triads.{in-limits, negated-triad}
 use Rattle.moments.specs.declared.triad.Triad.{Triad}
 use Rattle.moments.proofs.Tests.{some-by-test}
-use Rattle.moments.proofs.Turning.{turned-asked, turned-passed}
+use Rattle.moments.proofs.Turning.{turned-asked}
 use Rattle.explained.proofs.sides.TurnedExplained.sides.Needs as need
 
 pub returns-in-Some : need.returns-in-Some
@@ -15,8 +15,7 @@ returns-in-Some g c =
     let t = c .args .triad in
     let x = c .args .pair .mx in
     let y = c .args .pair .my in
-    let e = c .in-Some .ensures tt in
-    record {
-      value = c .sides .ensures .value ∙ (ap (λ (s : Triad). cond (asked m s x y) (Some (q s x y)) None) (some-by-test (in-limits t) (c .in-Some .turned) (negated-triad t) e .1) ∙ ap (λ (b : Bool). cond b (Some (q (negated-triad t) x y)) None) (turned-asked m t x y));
-      decides = c .sides .ensures .decides ∙ turned-passed m (c .in-Some .turned) t e x y;
-    }
+    let turned = some-by-test (in-limits t) (c .in-Some .turned) (negated-triad t) (c .in-Some .ensures tt) .1 in
+    c .sides .ensures
+    ∙ ap (λ (s : Triad). cond (asked m s x y) (Some (q s x y)) None) turned
+    ∙ ap (λ (b : Bool). cond b (Some (q (negated-triad t) x y)) None) (turned-asked m t x y)
