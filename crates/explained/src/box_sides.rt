@@ -3,8 +3,8 @@ ghost use Rattle.explained.specs.Inequalities.{box-sides};
 use crate::margins::against_topped;
 use crate::sides::Explained;
 use crate::sides::Sides;
+use crate::sides::if_asked;
 use moments::pair::Pair;
-use moments::rule::YieldRule;
 use moments::triad::Triad;
 use rules::box_rule::BoxPartners;
 use rules::box_rule::BoxPasses;
@@ -14,11 +14,7 @@ pub impl Explained for BoxRule as BoxExplained {
     ghost inequalities = { λ _. box-sides };
 
     fn sides(&self, triad: Triad, pair: Pair) -> Option<Sides> {
-        let ceiling = self.ceiling();
-        if !triad.in_limits() || ceiling < pair.mx || ceiling < pair.my {
-            return None;
-        }
-        Some(both_sides(triad, pair))
+        if_asked(self, triad, pair, both_sides(triad, pair))
     }
 }
 

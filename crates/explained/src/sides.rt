@@ -10,15 +10,17 @@ ghost use Rattle.explained.specs.Holding.{holds, all-hold};
 ghost use Rattle.explained.specs.declared.sides.Sides.{Sides};
 use moments::pair::Pair;
 use moments::rule::DirectRule;
+use moments::rule::YieldRule;
 use moments::triad::Triad;
 use moments::turned::Turned;
 use moments::turned::TurnedPartners;
 
 // One inequality: what the pair gives and what the load case needs. It holds where the first is at least the second.
+// The numbers are wide enough for the product of any two margins.
 #[derive(Clone, Copy, PartialEq, Eq, Debug)]
 pub struct Side {
-    pub given: i64,
-    pub needed: i64,
+    pub given: i128,
+    pub needed: i128,
 }
 
 // The inequalities of a rule: one for each bar direction, and for some rules one on a product of the two.
@@ -47,6 +49,23 @@ pub trait Explained: DirectRule {
     // Both sides of each inequality; none where the triad is out of limits or a moment is above the ceiling.
     fn sides(&self, triad: Triad, pair: Pair) -> Option<Sides>
         ensures { λ r. ⌜ r ≡ cond (asked (Self·YieldRule .meaning (now (self .entry))) triad (pair .mx) (pair .my)) (Some (inequalities (now (self .entry)) triad (pair .mx) (pair .my))) None ⌝ };
+}
+
+// The sides, where the rule is asked about the triad and the pair; else none.
+pub(crate) fn if_asked<R: YieldRule>(
+    rule: &R,
+    triad: Triad,
+    pair: Pair,
+    sides: Sides,
+) -> Option<Sides>
+    ensures { λ r. ⌜ r ≡ cond (asked (R·YieldRule .meaning (now (rule .entry))) triad (pair .mx) (pair .my)) (Some sides) None ⌝ }
+{
+    let ceiling = rule.ceiling();
+    if triad.in_limits() && pair.mx <= ceiling && pair.my <= ceiling {
+        Some(sides)
+    } else {
+        None
+    }
 }
 
 // A rule turned over has the inequalities of the rule for the triad with all three moments negated.

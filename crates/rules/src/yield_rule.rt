@@ -45,10 +45,8 @@ pub impl DirectRule for Yield as YieldPartners {
     }
 }
 
+// Whether the pair meets the criterion, by margins that are wide enough for their product.
 fn yields(triad: Triad, pair: Pair) -> bool
-    requires limits { ⌜ T (in-limits triad) ⌝ }
-    requires mx { ⌜ pair .mx ≤ delivered-ceiling ⌝ }
-    requires my { ⌜ pair .my ≤ delivered-ceiling ⌝ }
     ensures { λ r. ⌜ r ≡ yields-at triad (pair .mx) (pair .my) ⌝ }
 {
     let Some(x) = margin(pair.mx, triad.mx) else {
@@ -57,7 +55,7 @@ fn yields(triad: Triad, pair: Pair) -> bool
     let Some(y) = margin(pair.my, triad.my) else {
         return false;
     };
-    square(triad.mxy) <= x * y
+    square(triad.mxy) as u128 <= x as u128 * y as u128
 }
 
 // The least my that goes with mx.

@@ -2,7 +2,7 @@ use mathlib.Core.Path.{_≡_}
 use native.Mathlib.Omega.{arith}
 use borrow.Author.Differences.{ints}
 use borrow.Author.Numbers.{signed-product}
-use mir.Syntax.{w32, w64}
+use mir.Syntax.{w64, w128}
 use mir.Val.{toZ, ofZ}
 use mir.Facts.{toZ-ofZ}
 use Rattle.explained.proofs.margins.times.Needs as need
@@ -11,7 +11,7 @@ pub returns : need.returns
 returns c =
     let a = c .args .a in
     let b = c .args .b in
-    let p = signed-product w64 w32 w32 a b (c .fits .a) (c .fits .b) tt in
-    let e : toZ w64 (ofZ w64 (toZ w32 (ofZ w32 a))) ≡ a = omega (arith, ints, c .fits .a) in
-    let f : toZ w64 (ofZ w64 (toZ w32 (ofZ w32 b))) ≡ b = omega (arith, ints, c .fits .b) in
+    let p = signed-product w128 w64 w64 a b (c .fits .a) (c .fits .b) tt in
+    let e : toZ w128 (ofZ w128 (toZ w64 (ofZ w64 a))) ≡ a = omega (arith, ints, c .fits .a) in
+    let f : toZ w128 (ofZ w128 (toZ w64 (ofZ w64 b))) ≡ b = omega (arith, ints, c .fits .b) in
     rw (toZ-ofZ p, e, f)
