@@ -39,7 +39,8 @@ pub impl DirectRule for BoxRule as BoxPartners {
     }
 
     fn least_mx(&self, triad: Triad, my: u32) -> Option<u32> {
-        least_partner(triad.exchanged(), my)
+        let across = triad.exchanged();
+        least_partner(across, my)
     }
 }
 
