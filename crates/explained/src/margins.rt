@@ -31,6 +31,7 @@ pub(crate) fn excess(moment: u32, bending: i32) -> i64
     moment as i64 - bending as i64
 }
 
+// A product, wide enough for any two factors.
 pub(crate) fn times(a: i64, b: i64) -> i128
     ensures { λ r. ⌜ r ≡ a *ℤ b ⌝ }
 {

@@ -1,5 +1,5 @@
 -- What follows from a rule's answer, and the two bar directions exchanged. Assumes nothing.
-use mathlib.Core.Path.{_≡_, ap, _∙_}
+use mathlib.Core.Path.{_≡_, ap}
 use mathlib.Core.Bool.{Bool, _&&_}
 use Prim.Native.Nat.{ℕ, _≤_}
 use lib.Dec.{T, leb, le→leb}

@@ -16,7 +16,8 @@ use moments::rule::DirectRule;
 use moments::rule::YieldRule;
 use moments::triad::Triad;
 
-// The yield criterion: the product of the two margins is at least the square of the twisting moment.
+// The yield criterion: each yield moment is at least its bending moment, and the product of the two margins is at least the
+// square of the twisting moment.
 #[derive(Clone, Copy, PartialEq, Eq, Debug)]
 pub struct Yield;
 

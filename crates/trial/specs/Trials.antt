@@ -1,6 +1,6 @@
 -- What one load case says to a trial pair. Assumes nothing.
 use Prim.Native.Nat.{ℕ}
-use mathlib.Core.Bool.{Bool, true, false}
+use mathlib.Core.Bool.{true, false}
 use mathlib.Core.Path.{_≡_}
 use lib.Dec.{T}
 use Rattle.std.specs.declared.option.Option.{Option}

@@ -1,12 +1,10 @@
 use Prim.Native.Nat.{ℕ}
-use mathlib.Core.List.{List}
 use mathlib.Core.Path.{_≡_, sym, ap, _∙_}
 use Rattle.std.specs.Holes.{inserted}
 use Rattle.std.specs.Results.{isOk}
 use Rattle.std.specs.declared.option.Option.the-variants.{None}
 use Rattle.trial.specs.Entering.{list-of, case-of, enter-due}
 use Rattle.trial.specs.Lists.{rank}
-use Rattle.trial.specs.declared.case.Case.{Case}
 use Rattle.trial.proofs.Entered.{stays-in-order}
 use Rattle.trial.proofs.Orders.{entered-inserted}
 use Rattle.trial.proofs.cases.Cases.enter.Needs as need
