@@ -1,4 +1,6 @@
 // account: reads a script of load cases and trial pairs on standard input, and prints an account of each check.
+#![tactic(auto)]
+
 mod report;
 mod wording;
 

@@ -1,5 +1,7 @@
 // bench_search: how often the search for the best pair asks the load cases, and with the word `time`, how much faster it is than
 // a plain scan of all columns in the same run.
+#![tactic(auto)]
+
 mod counted;
 mod scan;
 

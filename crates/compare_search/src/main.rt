@@ -1,4 +1,6 @@
 // compare_search: the search for the best pair and its stops against a plain one, on thousands of small random tables.
+#![tactic(auto)]
+
 mod cases;
 mod plain;
 

@@ -1,4 +1,6 @@
 // Figures worked by hand, run as tests. They have a crate of their own, since a crate with tests is proved twice.
+#![tactic(auto)]
+
 #[cfg(test)]
 mod best;
 #[cfg(test)]

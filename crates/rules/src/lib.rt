@@ -1,4 +1,6 @@
 // The delivered yield rules.
+#![tactic(auto)]
+
 pub mod box_rule;
 mod direction;
 pub mod readings;

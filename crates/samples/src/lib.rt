@@ -1,4 +1,6 @@
 // Load cases that look random and are the same in every run, for the programs that try the search out.
+#![tactic(auto)]
+
 ghost use Rattle.std.specs.Prelude.{◌≤◌};
 
 use moments::limits::MOMENT_LIMIT;

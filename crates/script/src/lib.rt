@@ -1,4 +1,6 @@
 // The text scripts that the work on a slab can be written in, line by line.
+#![tactic(auto)]
+
 pub mod command;
 mod keywords;
 pub mod laws;

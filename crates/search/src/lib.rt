@@ -1,4 +1,6 @@
 // The best pair of a face under many load cases, and what stops each of its moments.
+#![tactic(auto)]
+
 pub mod best;
 pub mod laws;
 mod least;

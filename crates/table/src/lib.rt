@@ -1,3 +1,5 @@
 // The load cases that stand at a point, in an order of their own.
+#![tactic(auto)]
+
 pub mod line;
 pub mod table;

@@ -5,8 +5,8 @@ use Rattle.script.specs.Runs.{belongs}
 use Rattle.script.proofs.Cutting.{past_short}
 use Rattle.script.proofs.lines.split_line.Goals as goal
 
-pub returns-else-is-empty : goal.returns-else-is-empty
-returns-else-is-empty c =
+pub returns-else-is_empty : goal.returns-else-is_empty
+returns-else-is_empty c =
     let rest = c.cut.result.1.now in
     let short = past_short (belongs run.Line) c.args.script.now in
     record {

@@ -10,13 +10,13 @@ use Rattle.search.proofs.least.least_safe.Goals as goal
 pub loop-line-init : goal.loop-line-init
 loop-line-init g c = meets_none _ c.moment-low.result _ c.args.lines.now (omega arith)
 
-pub returns-in-err-least-partner : goal.returns-in-err-least-partner
-returns-in-err-least-partner g c =
+pub returns-in_err-least_partner : goal.returns-in_err-least_partner
+returns-in_err-least_partner g c =
     let m = g.R.YieldRule.meaning c.args.rule.now in
-    rw c.from-residual.ensures
+    rw c.from_residual.ensures
     (λ z s.
     meets_stop (along m c.args.direction c.args.partner) _ m.ceiling c.args.lines.now c.loop-line.line-index _ c.loop-line-test.true
-    c.in-err-least-partner.ensures z (safe_meets m c.args.lines.now c.args.floor c.args.direction c.args.partner z s))
+    c.in_err-least_partner.ensures z (safe_meets m c.args.lines.now c.args.floor c.args.direction c.args.partner z s))
 
 pub loop-line-preserved : goal.loop-line-preserved
 loop-line-preserved g c =
@@ -24,7 +24,7 @@ loop-line-preserved g c =
     let high : c.args.partner ≤ m.ceiling = omega arith in
     rw c.max-need.ensures
     (meets_more (along m c.args.direction c.args.partner) _ m.ceiling c.args.lines.now c.loop-line.line-index _ c.loop-line-test.true _ _
-    (along_grows m c.args.direction c.args.partner (g.met.R.YieldRule.lawful c.args.rule.now) high) c.loop-line.invariant c.in-ok-least-partner.ensures)
+    (along_grows m c.args.direction c.args.partner (g.met.R.YieldRule.lawful c.args.rule.now) high) c.loop-line.invariant c.in_ok-least_partner.ensures)
 
 pub returns : goal.returns
 returns g c =

@@ -5,11 +5,11 @@ use Rattle.search.specs.Best.{Safe}
 use Rattle.search.proofs.Skips.{safe_outward}
 use Rattle.search.proofs.seed.seed.Goals as goal
 
-pub returns-in-err-my : goal.returns-in-err-my
-returns-in-err-my g c =
+pub returns-in_err-my : goal.returns-in_err-my
+returns-in_err-my g c =
     let m = g.R.YieldRule.meaning c.args.rule.now in
     let S = Safe m c.args.lines.now c.args.floor in
-    rw c.from-residual.ensures
+    rw c.from_residual.ensures
     (λ q s.
-    c.in-err-my.ensures q.my
+    c.in_err-my.ensures q.my
     (subst (λ (x : ℕ). S (pair_along Y q.my x)) (sym c.ceiling-mx.ensures) (safe_outward m c.args.lines.now c.args.floor (g.met.R.YieldRule.lawful c.args.rule.now) q s)))

@@ -11,7 +11,7 @@ unreachable-requires g c =
     let m = g.R.YieldRule.meaning c.args.rule.now in
     let ls = standing c.args.table.now in
     let w = c.if-moment.false in
-    let is = lowered_is c.args.direction c.across.result c.args.best c.along_lower.result c.moment-moment.result c.moment-2.result c.along_lower.ensures c.moment-moment.ensures c.moment-2.ensures c.across.ensures in
+    let is = lowered_is c.args.direction c.across.result c.args.best c.along-lower.result c.moment-moment.result c.moment-2.result c.along-lower.ensures c.moment-moment.ensures c.moment-2.ensures c.across.ensures in
     fails_below m ls c.args.floor c.args.best c.args.direction c.requires
     (λ e. w (c.moment-moment.ensures ∙ e ∙ sym c.moment.ensures))
     (subst (λ (p : Pair). All (λ l. passed_by m p l ≡ true) ls) is c.in-None.ensures.lowest)

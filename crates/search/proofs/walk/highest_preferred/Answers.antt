@@ -13,4 +13,4 @@ returns-then-prefers g c =
 pub returns-else-prefers : goal.returns-else-prefers
 returns-else-prefers g c =
     up_to_less _ (g.met.K.Ranking.ranks c.args.ranking.now) c.args.best c.args.from (sum c.args.best - c.args.from) refl c.if-sum-from.false
-    (rw (← c.if-prefers.ensures) (λ h. h)) c.checked-sub.result c.checked-sub.ensures
+    (rw (← c.if-prefers.ensures) (λ h. h)) c.checked_sub.result c.checked_sub.ensures

@@ -12,7 +12,7 @@ loop-column-preserved-then-column-from g c =
     let ranks = g.met.K.Ranking.ranks c.args.ranking.now in
     let S = Safe (g.R.YieldRule.meaning c.args.rule.now) c.args.lines.now c.args.floor in
     let skipped = unbeaten_skip _ ranks S c.loop-column.best _ c.loop-column.from c.in-Some.column c.loop-column.invariant.1 c.in-Some.ensures in
-    (c.with-column-best.ensures.belongs, unbeaten_more _ ranks S c.loop-column.best c.with-column-best.result c.in-Some.column skipped c.with-column-best.ensures)
+    (c.with_column-best.ensures.belongs, unbeaten_more _ ranks S c.loop-column.best c.with_column-best.result c.in-Some.column skipped c.with_column-best.ensures)
 
 pub loop-column-preserved : goal.loop-column-preserved
 loop-column-preserved g c =
@@ -23,4 +23,4 @@ loop-column-preserved g c =
 pub returns : goal.returns
 returns g c =
     best_at_end _ (g.met.K.Ranking.ranks c.args.ranking.now) (Safe (g.R.YieldRule.meaning c.args.rule.now) c.args.lines.now c.args.floor)
-    c.loop-column.best c.loop-column.from c.loop-column.invariant.0 c.loop-column.invariant.1 c.in-default.ensures
+    c.loop-column.best c.loop-column.from c.loop-column.invariant.0 c.loop-column.invariant.1 c.in_default.ensures

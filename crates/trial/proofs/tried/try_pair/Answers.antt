@@ -11,7 +11,7 @@ returns g c =
     let t = c.args.triad in
     let x = c.args.pair.mx in
     let y = c.args.pair.my in
-    let some = some_by_test (asked m t x y) c.in-ok-sides.sides (g.R.Explained.inequalities rule t x y) c.in-ok-sides.ensures in
+    let some = some_by_test (asked m t x y) c.in_ok-sides.sides (g.R.Explained.inequalities rule t x y) c.in_ok-sides.ensures in
     let passes : c.passes.result ≡ m.passing t x y = c.passes.ensures ∙ ap (λ (b : Bool). b && m.passing t x y) some.0 in
     record {
       within = some.0;

@@ -9,4 +9,4 @@ use Rattle.rules.proofs.box_rule.BoxRuleDirectRule.least_mx.Goals as goal
 
 pub returns : goal.returns
 returns c =
-    partner_like _ _ _ _ (λ x _. ap (λ (t : Triad). passed box_meaning t c.args.my x) c.exchanged_across.ensures ∙ exchanged_passed box_meaning boxed_exchanged c.args.triad x c.args.my) c.least-partner.ensures
+    partner_like _ _ _ _ (λ x _. ap (λ (t : Triad). passed box_meaning t c.args.my x) c.exchanged-across.ensures ∙ exchanged_passed box_meaning boxed_exchanged c.args.triad x c.args.my) c.least_partner.ensures

@@ -23,11 +23,11 @@ placed t k at ls d le e p =
     ap (λ xs. take (t.count + 1) (set xs at k)) p ∙ take-opened t.lines at t.count k le (omega arith)
     ∙ ap (λ i. insert (standing t) i k) e ∙ sym (entered_inserted k (standing t))
 
-pub copy-within-requires : goal.copy-within-requires
-copy-within-requires c =
+pub copy_within-requires : goal.copy_within-requires
+copy_within-requires c =
     let r = (enter_free c.args.line.number c.args.line.triad (standing c.args.self.now) c.requires).room in
     let n = length-standing c.args.self.now in
-    record { start-le-end = c.rank-at.ensures.bound; in_bounds = omega arith; dest-in-bounds = omega arith; not-exhausted = tt }
+    record { start_le_end = c.rank-at.ensures.bound; in_bounds = omega arith; dest_in_bounds = omega arith; not_exhausted = tt }
 
 pub bounds-self-at : goal.bounds-self-at
 bounds-self-at c =
@@ -35,28 +35,25 @@ bounds-self-at c =
     let n = length-standing c.args.self.now in
     omega arith
 
-pub invariant-of-self : goal.invariant-of-self
-invariant-of-self c =
+pub invariant_of-self : goal.invariant_of-self
+invariant_of-self c =
     let t = c.args.self.now in
     let k = c.args.line in
     let s = t.sized in
     let f = enter_free k.number k.triad (standing t) c.requires in
     let r = f.room in
     let n = length-standing t in
-    let l = length-set c.copy-within.new.self c.rank-at.result k in
-    let m = c.copy-within.ensures.len in
-    let e = placed t k _ _ c.requires c.rank-at.ensures.bound c.rank-at.ensures.value c.copy-within.ensures.after in (
-      omega arith,
-      (
-        omega arith,
-        (
-          ap climbing e ∙ climbing-entered k (standing t) t.rising f.fresh,
-          (ap all_sound e ∙ sound-entered k (standing t) f.fit t.ranged, tt),
-        ),
-      ),
-    )
+    let l = length-set c.copy_within.new.self c.rank-at.result k in
+    let m = c.copy_within.ensures.len in
+    let e = placed t k _ _ c.requires c.rank-at.ensures.bound c.rank-at.ensures.value c.copy_within.ensures.after in
+    record {
+      sized = omega arith;
+      few = omega arith;
+      rising = ap climbing e ∙ climbing-entered k (standing t) t.rising f.fresh;
+      ranged = ap all_sound e ∙ sound-entered k (standing t) f.fit t.ranged;
+    }
 
 pub returns : goal.returns
 returns c =
     placed c.args.self.now c.args.line _ _ c.requires c.rank-at.ensures.bound c.rank-at.ensures.value
-    c.copy-within.ensures.after
+    c.copy_within.ensures.after

@@ -19,7 +19,7 @@ returns c =
     let ls = standing t in
     let p = some_by_test (stands n ls) c.in-Some.at (rank n ls) c.in-Some.ensures.value in
     let f = subst (Found n ls) (sym p.1) (found n ls t.rising p.0) in
-    let due : withdraw_due n ls ≡ None = withdraw_goes n ls (sym c.if-not-is-case-number.ensures) p.0 in
+    let due : withdraw_due n ls ≡ None = withdraw_goes n ls (sym c.if-not-is_case_number.ensures) p.0 in
     let e = c.remove.ensures ∙ sym f.gone in
     record {
       refusal = sym due;

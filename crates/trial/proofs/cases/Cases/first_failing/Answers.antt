@@ -6,7 +6,7 @@ use Rattle.trial.proofs.cases.Cases.first_failing.Goals as goal
 pub returns-then-not-passes : goal.returns-then-not-passes
 returns-then-not-passes g c =
     let test = passed_by (g.R.YieldRule.meaning c.args.rule.now) c.args.pair in
-    sym (failing_here _ _ _ c.loop-case-test.true test (sym c.passes.ensures ∙ c.if-not-passes.true)) ∙ c.loop-case.invariant ∙ ap (first_failing test) c.as-slice-case-items.ensures
+    sym (failing_here _ _ _ c.loop-case-test.true test (sym c.passes.ensures ∙ c.if-not-passes.true)) ∙ c.loop-case.invariant ∙ ap (first_failing test) c.as_slice-case-items.ensures
 
 pub loop-case-preserved : goal.loop-case-preserved
 loop-case-preserved g c =
@@ -16,4 +16,4 @@ loop-case-preserved g c =
 pub returns : goal.returns
 returns g c =
     let test = passed_by (g.R.YieldRule.meaning c.args.rule.now) c.args.pair in
-    sym (failing_end _ _ c.loop-case-test.false test) ∙ c.loop-case.invariant ∙ ap (first_failing test) c.as-slice-case-items.ensures
+    sym (failing_end _ _ c.loop-case-test.false test) ∙ c.loop-case.invariant ∙ ap (first_failing test) c.as_slice-case-items.ensures
