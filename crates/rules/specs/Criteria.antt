@@ -1,5 +1,5 @@
 -- The delivered rules: each criterion as a test over the integers, and as the inequalities that a reader expects. Assumes nothing.
-use Rattle.std.specs.Prelude.{ℕ, ◌*◌, Bool, ◌&&◌, ℤ, pos, ◌+ℤ◌, ◌-ℤ◌, ◌*ℤ◌, ◌≤ℤ◌, int_le, unsigned_abs}
+use Rattle.std.specs.Prelude.{ℕ, ◌*◌, Bool, ◌&&◌, pos, ◌+ℤ◌, ◌-ℤ◌, ◌*ℤ◌, ◌≤ℤ◌, int_le, unsigned_abs}
 use Rattle.moments.specs.Limits.{moment_limit}
 use Rattle.moments.specs.Meanings.{Meaning}
 use Rattle.moments.specs.declared.triad.Triad.{Triad}

@@ -1,5 +1,5 @@
 -- The safe pairs of a face, and the best of them by a ranking. Assumes nothing.
-use Rattle.std.specs.Prelude.{◌≡◌, ◌≤◌, Bool, T, List, Some, None, Option, ◌≢◌}
+use Rattle.std.specs.Prelude.{◌≤◌, Bool, T, List, Some, None, Option, ◌≢◌}
 use Rattle.std.specs.List.{AllByRecursion as All}
 use Rattle.moments.specs.Meanings.{Meaning}
 use Rattle.moments.specs.Pairs.{moment_in, sum}

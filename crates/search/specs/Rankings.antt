@@ -1,5 +1,5 @@
 -- What a ranking of pairs is, and the one in use. Assumes nothing.
-use Rattle.std.specs.Prelude.{◌≡◌, ◌<◌, Bool, ◌&&◌, ◌||◌, T, ◌⊎◌, ◌==◌, ◌≢◌, nat_lt}
+use Rattle.std.specs.Prelude.{◌<◌, Bool, ◌&&◌, ◌||◌, T, ◌⊎◌, ◌==◌, ◌≢◌, nat_lt}
 use Rattle.moments.specs.Pairs.{sum}
 use Rattle.moments.specs.declared.pair.Pair.{Pair}
 

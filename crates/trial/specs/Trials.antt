@@ -1,5 +1,5 @@
 -- What one load case says to a trial pair. Assumes nothing.
-use Rattle.std.specs.Prelude.{◌≡◌, ℕ, true, false, T, Some, None, Option}
+use Rattle.std.specs.Prelude.{◌≡◌, ℕ, true, false, Some, None, Option}
 use Rattle.moments.specs.Meanings.{Meaning, asked}
 use Rattle.moments.specs.Partners.{LeastMy, LeastMx}
 use Rattle.moments.specs.declared.pair.Pair.{Pair}
