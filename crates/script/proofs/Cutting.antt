@@ -1,7 +1,7 @@
 -- The longest front that passes a test, and what follows it. Assumes nothing.
 use Rattle.std.proofs.Common.{◌≡◌, ℕ, ◌+◌, ◌<◌, ◌≤◌, Bool, true, false, cond, List, [], ◌∷◌, ◌++◌, length, take, drop, refl, ap, ◌∙◌, one-add, arith}
 use Rattle.std.proofs.lemmas.Bool.{cond_both, cond-true, cond-false}
-use Rattle.std.specs.List.{prefix_len, AllByRecursion as All}
+use Rattle.std.specs.List.{prefix_len, AllByRecursion}
 use Rattle.script.specs.Runs.{front, past}
 
 -- both by the length of the front
@@ -32,14 +32,14 @@ front_stops p (b ∷ bs) cs c fails = ap (λ (f : List ℕ). cond (p b) (b ∷ f
 
 -- after bytes that all pass, and after some that fail
 module _ (p : ℕ → Bool) where
-  pub front_through : (bs cs : List ℕ) → All (λ b. p b ≡ true) bs → front p (bs ++ cs) ≡ bs ++ front p cs
+  pub front_through : (bs cs : List ℕ) → AllByRecursion (λ b. p b ≡ true) bs → front p (bs ++ cs) ≡ bs ++ front p cs
   front_through [] cs all = refl
   front_through (b ∷ bs) cs all = cond-true (p b) _ _ all.0 ∙ ap (λ (t : List ℕ). b ∷ t) (front_through bs cs all.1)
 
-  pub past_through : (bs cs : List ℕ) → All (λ b. p b ≡ true) bs → past p (bs ++ cs) ≡ past p cs
+  pub past_through : (bs cs : List ℕ) → AllByRecursion (λ b. p b ≡ true) bs → past p (bs ++ cs) ≡ past p cs
   past_through [] cs all = refl
   past_through (b ∷ bs) cs all = cond-true (p b) _ _ all.0 ∙ past_through bs cs all.1
 
-  pub past_none : (bs cs : List ℕ) → 0 < length bs → All (λ b. p b ≡ false) bs → past p (bs ++ cs) ≡ bs ++ cs
+  pub past_none : (bs cs : List ℕ) → 0 < length bs → AllByRecursion (λ b. p b ≡ false) bs → past p (bs ++ cs) ≡ bs ++ cs
   past_none [] cs some all = absurd (omega arith)
   past_none (b ∷ bs) cs some all = cond-false (p b) _ _ all.0

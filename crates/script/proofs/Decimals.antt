@@ -3,7 +3,7 @@ use Rattle.std.proofs.Common.{◌≡◌, ℕ, suc, ◌+◌, ◌-◌, ◌*◌, �
 use Rattle.std.specs.Option.{option_map}
 use Rattle.std.specs.Char.{is_ascii_digit, IsAsciiDigit}
 use Rattle.std.specs.Fmt.{signed_decimal}
-use Rattle.std.specs.List.{AllByRecursion as All}
+use Rattle.std.specs.List.{AllByRecursion}
 use Rattle.std.proofs.lemmas.Fmt.{decimal_nonempty, decimal_by_steps, digits_decimal}
 use Rattle.std.proofs.ByRecursion.{All-get_or, All-weaker}
 use Rattle.std.proofs.lemmas.Str.Parse.{IsDigitsTest, numerals_by_value}
@@ -45,17 +45,17 @@ back =
     ∙ last_digit (n / 10) (n % 10) n (omega arith) (omega arith) small)
 
 -- digits are no blanks, and begin no comment
-tells_all : IsDigitsTest (All IsAsciiDigit)
+tells_all : IsDigitsTest (AllByRecursion IsAsciiDigit)
 tells_all = record { empty = tt; parts = λ c cs h. h; more = λ c cs a b. (a, b) }
 
 module _ (n : ℕ) (small : n ≤ largest) where
   fits : n < 2 ^ 64
   fits = omega arith
 
-  digits : All IsAsciiDigit (decimal n)
-  digits = digits_decimal (numerals_by_value (All IsAsciiDigit) tells_all) n fits
+  digits : AllByRecursion IsAsciiDigit (decimal n)
+  digits = digits_decimal (numerals_by_value (AllByRecursion IsAsciiDigit) tells_all) n fits
 
-  plain_digits : All Plain (decimal n)
+  plain_digits : AllByRecursion Plain (decimal n)
   plain_digits = All-weaker IsAsciiDigit Plain (λ b h. (grind (arith, nat_tests), grind (arith, nat_tests))) (decimal n) digits
 
   pub reads_whole : Reads whole_of (decimal n) n

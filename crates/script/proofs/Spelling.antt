@@ -1,7 +1,7 @@
 -- A word that stands in a text is read. Assumes nothing.
 use Rattle.std.proofs.Common.{◌≡◌, ℕ, ◌<◌, Bool, true, false, ◌&&◌, eqb, List, [], ◌∷◌, ◌++◌, length, Some, Ok, Option, refl, ap, ◌∙◌, arith, length-append}
 use Rattle.std.specs.Option.{ok_or}
-use Rattle.std.specs.List.{AllByRecursion as All}
+use Rattle.std.specs.List.{AllByRecursion}
 use Rattle.std.proofs.ByRecursion.{All-weaker}
 use Rattle.std.proofs.lemmas.List.{append-nil}
 use Rattle.std.proofs.lemmas.Bool.{cond-false, ne_eqb, not-true, and_parts}
@@ -23,7 +23,7 @@ Plain b = (belongs run.Word b ≡ true) × (belongs run.Text b ≡ true)
 
 pub record Spelt (w : List ℕ) : Type 0 where
   pub some : 0 < length w
-  pub plain : All Plain w
+  pub plain : AllByRecursion Plain w
 
 -- a word that stands for x
 pub record Reads {X : Type 0} (f : List ℕ → Option X) (w : List ℕ) (x : X) : Type 0 where
@@ -35,7 +35,7 @@ abbrev pub all_plain : List ℕ → Bool
 all_plain [] = true
 all_plain (b ∷ bs) = (belongs run.Word b && belongs run.Text b) && all_plain bs
 
-plain_from : (w : List ℕ) → all_plain w ≡ true → All Plain w
+plain_from : (w : List ℕ) → all_plain w ≡ true → AllByRecursion Plain w
 plain_from [] e = tt
 plain_from (b ∷ bs) e = let h = and_parts (belongs run.Word b && belongs run.Text b) (all_plain bs) e in (and_parts (belongs run.Word b) (belongs run.Text b) h.0, plain_from bs h.1)
 
@@ -57,7 +57,7 @@ module _ {w : List ℕ} (s : Spelt w) (ws : List (List ℕ)) where
   no_blank : past (belongs run.Gap) (w ++ spaced ws) ≡ w ++ spaced ws
   no_blank = past_none (belongs run.Gap) w (spaced ws) s.some (All-weaker Plain _ (λ b h. not-true (is_blank b) h.0) w s.plain)
 
-  in_word : All (λ b. belongs run.Word b ≡ true) w
+  in_word : AllByRecursion (λ b. belongs run.Word b ≡ true) w
   in_word = All-weaker Plain _ (λ b h. h.0) w s.plain
 
   word_read : word_at (w ++ spaced ws) ≡ Ok (record { bytes = w; left = length (w ++ spaced ws) }, spaced ws)
@@ -77,12 +77,12 @@ meant_read {X} {w = w} h y ws = step _ (word_read h.spelt ws) (ap (λ (o : Optio
 text_through : {w : List ℕ} → Spelt w → (bs : List ℕ) → text_of bs ≡ bs → text_of (w ++ bs) ≡ w ++ bs
 text_through {w} s bs e = front_through (belongs run.Text) w bs (All-weaker Plain _ (λ b h. h.1) w s.plain) ∙ ap (λ (t : List ℕ). w ++ t) e
 
-text_spaced : (ws : List (List ℕ)) → All Spelt ws → text_of (spaced ws) ≡ spaced ws
+text_spaced : (ws : List (List ℕ)) → AllByRecursion Spelt ws → text_of (spaced ws) ≡ spaced ws
 text_spaced [] all = refl
 text_spaced (w ∷ ws) all = ap (λ (t : List ℕ). 32 ∷ t) (text_through all.0 (spaced ws) (text_spaced ws all.1))
 
 -- a whole line: a command's name, and words that are read as what follows it
-pub line_read : (w : List ℕ) (ws : List (List ℕ)) {k : Name} {c : Command} → Reads name_of w k → All Spelt ws → body_at k (spaced ws) ≡ Ok (c, []) → command_of (w ++ spaced ws) ≡ Ok (Some c)
+pub line_read : (w : List ℕ) (ws : List (List ℕ)) {k : Name} {c : Command} → Reads name_of w k → AllByRecursion Spelt ws → body_at k (spaced ws) ≡ Ok (c, []) → command_of (w ++ spaced ws) ≡ Ok (Some c)
 line_read w ws {k} {c} h all body =
     let text = text_through h.spelt (spaced ws) (text_spaced ws all) in
     let command : command_at (w ++ spaced ws) ≡ Ok (c, []) = step _ (meant_read h _ ws) (step _ body refl) in

@@ -1,7 +1,7 @@
 -- The least moment in a direction that every line of a list passes together with one partner. Assumes nothing.
 use Rattle.std.proofs.Common.{ℕ, ◌+◌, ◌<◌, ◌≤◌, max, Bool, T, List, length, get_or, take, sym, subst, le_refl, arith, length-take-le, get_or-take, take-take}
 use native.Mathlib.Nat.{le-max_left, le-max_right, max-le}
-use Rattle.std.specs.List.{AllByRecursion as All}
+use Rattle.std.specs.List.{AllByRecursion}
 use Rattle.std.proofs.ByRecursion.{All-get_or, All-more, All-take, All-weaker}
 use Rattle.moments.specs.Meanings.{Meaning, Lawful}
 use Rattle.moments.specs.Pairs.{crossing, moment_in, pair_along}
@@ -17,10 +17,10 @@ use Rattle.search.specs.Best.{Safe}
 use Rattle.search.specs.Steps.{Smallest}
 
 -- what holds of one more element holds of those before it, and of that one
-all_fewer : {X : Type 0} (P : X → Type 0) (xs : List X) (i : ℕ) → All P (take (i + 1) xs) → All P (take i xs)
+all_fewer : {X : Type 0} (P : X → Type 0) (xs : List X) (i : ℕ) → AllByRecursion P (take (i + 1) xs) → AllByRecursion P (take i xs)
 all_fewer P xs i h = let le : i ≤ i + 1 = omega arith in rw take-take at (All-take P i (take (i + 1) xs) h)
 
-all_last : {X : Type 0} (P : X → Type 0) (xs : List X) (i : ℕ) (d : X) → i < length xs → All P (take (i + 1) xs) → P (get_or xs i d)
+all_last : {X : Type 0} (P : X → Type 0) (xs : List X) (i : ℕ) (d : X) → i < length xs → AllByRecursion P (take (i + 1) xs) → P (get_or xs i d)
 all_last P xs i d inside h =
     let lt : i < i + 1 = omega arith in
     let more : i + 1 ≤ length xs = omega arith in
@@ -31,7 +31,7 @@ all_last P xs i d inside h =
 pub record Meets (p : Line → ℕ → Bool) (low ceiling : ℕ) (lines : List Line) (z : ℕ) : Type 0 where
   pub from : low ≤ z
   pub upto : z ≤ ceiling
-  pub passed : All (λ l. T (p l z)) lines
+  pub passed : AllByRecursion (λ l. T (p l z)) lines
 
 -- before the first line only the bounds count
 pub meets_none : (p : Line → ℕ → Bool) (low ceiling : ℕ) (lines : List Line) → low ≤ ceiling → Smallest (Meets p low ceiling (take 0 lines)) low
@@ -46,7 +46,7 @@ module _ (p : Line → ℕ → Bool) (low ceiling : ℕ) (lines : List Line) (i 
       let up_n : n ≤ max n k = le-max_left n k in
       let up_k : k ≤ max n k = le-max_right n k in
       let upto : max n k ≤ ceiling = max-le known.holds.upto own.within in
-      let before : All (λ x. T (p x (max n k))) (take i lines) =
+      let before : AllByRecursion (λ x. T (p x (max n k))) (take i lines) =
       All-weaker (λ x. T (p x n)) (λ x. T (p x (max n k))) (λ x h. grows x n (max n k) up_n upto h) (take i lines) known.holds.passed in
       let new : T (p (get_or lines i d) (max n k)) = grows (get_or lines i d) k (max n k) up_k upto own.holds in
       let from : low ≤ n = known.holds.from in

@@ -1,6 +1,6 @@
 -- A finite set of pairs that can be decided and has a pair has a best pair; so have the safe pairs of a face. Assumes nothing.
 use Rattle.std.proofs.Common.{◌≡◌, ℕ, zero, suc, ◌<◌, ◌≤◌, Bool, true, false, T, ◌⊎◌, List, [], ◌∷◌, ◌++◌, sym, refl, subst, inl, inr, ⊎_elim, arith}
-use Rattle.std.specs.List.{AllByRecursion as All}
+use Rattle.std.specs.List.{AllByRecursion}
 use Rattle.std.proofs.ByRecursion.{All-weaker}
 use Rattle.std.proofs.lemmas.Bool.{cases_lt}
 use Rattle.moments.specs.Meanings.{Meaning}
@@ -28,7 +28,7 @@ module _ (ahead : Pair → Pair → Bool) (S : Pair → Type 0) (ranks : Ranks a
   record Leader (ps : List Pair) : Type 0 where
     p : Pair
     belongs : S p
-    leads : All (Leads p) ps
+    leads : AllByRecursion (Leads p) ps
 
   -- what leads a leader leads whatever it leads
   overtakes : (x p q : Pair) → T (ahead x p) → Leads p q → Leads x q
@@ -45,7 +45,7 @@ module _ (ahead : Pair → Pair → Bool) (S : Pair → Type 0) (ranks : Ranks a
       (ranks.total x l.p ne))
       (same_or_not x l.p)
 
-  leader : (ps : List Pair) → Leader ps ⊎ All (λ q. S q → ⊥) ps
+  leader : (ps : List Pair) → Leader ps ⊎ AllByRecursion (λ q. S q → ⊥) ps
   leader [] = inr tt
   leader (x ∷ ps) =
       ⊎_elim
@@ -66,7 +66,7 @@ grid zero n = []
 grid (suc k) n = column k n ++ grid k n
 
 module _ (P : Pair → Type 0) where
-  parted : (ps qs : List Pair) → All P (ps ++ qs) → All P ps × All P qs
+  parted : (ps qs : List Pair) → AllByRecursion P (ps ++ qs) → AllByRecursion P ps × AllByRecursion P qs
   parted [] qs a = (tt, a)
   parted (p ∷ ps) qs a = let r = parted ps qs a.1 in ((a.0, r.0), r.1)
 
@@ -74,12 +74,12 @@ module _ (P : Pair → Type 0) where
   one_more : (Q : ℕ → Type 0) (n u : ℕ) → u < suc n → (u < n → Q u) → Q n → Q u
   one_more Q n u h below here = ⊎_elim below (λ le. let e : n ≡ u = omega arith in subst Q e here) (cases_lt u n)
 
-  in_column : (x n y : ℕ) → y < n → All P (column x n) → P (pair_along X x y)
+  in_column : (x n y : ℕ) → y < n → AllByRecursion P (column x n) → P (pair_along X x y)
   unfolding column
   in_column x zero y h a = absurd (omega arith)
   in_column x (suc n) y h a = one_more (λ z. P (pair_along X x z)) n y h (λ lt. in_column x n y lt a.1) a.0
 
-  in_grid : (k n x y : ℕ) → x < k → y < n → All P (grid k n) → P (pair_along X x y)
+  in_grid : (k n x y : ℕ) → x < k → y < n → AllByRecursion P (grid k n) → P (pair_along X x y)
   unfolding grid
   in_grid zero n x y h j a = absurd (omega arith)
   in_grid (suc k) n x y h j a =
@@ -104,9 +104,9 @@ decided_le a b = ⊎_elim (λ lt. inr (λ le. omega arith)) inl (cases_lt b a)
 decided_each : (P : Direction → Type 0) → ((d : Direction) → Decided (P d)) → Decided ((d : Direction) → P d)
 decided_each P f = decided_like (P X × P Y) ((d : Direction) → P d) (λ b. both_ways P X b.0 b.1) (λ h. (h X, h Y)) (decided_both (P X) (P Y) (f X) (f Y))
 
-decided_all : (p : Line → Bool) (ls : List Line) → Decided (All (λ l. T (p l)) ls)
+decided_all : (p : Line → Bool) (ls : List Line) → Decided (AllByRecursion (λ l. T (p l)) ls)
 decided_all p [] = inl tt
-decided_all p (l ∷ ls) = decided_both (T (p l)) (All (λ k. T (p k)) ls) (decided_test (p l)) (decided_all p ls)
+decided_all p (l ∷ ls) = decided_both (T (p l)) (AllByRecursion (λ k. T (p k)) ls) (decided_test (p l)) (decided_all p ls)
 
 decided_safe : (m : Meaning) (lines : List Line) (floor p : Pair) → Decided (Safe m lines floor p)
 decided_safe m lines floor p =

@@ -1,6 +1,6 @@
 -- Below a pair of the least sum some line fails. Assumes nothing.
 use Rattle.std.proofs.Common.{◌≡◌, ℕ, ◌-◌, true, T, List, sym, ap, ◌∙◌, subst, arith}
-use Rattle.std.specs.List.{AllByRecursion as All}
+use Rattle.std.specs.List.{AllByRecursion}
 use Rattle.std.proofs.ByRecursion.{All-weaker}
 use Rattle.moments.specs.Meanings.{Meaning}
 use Rattle.moments.specs.Pairs.{crossing, moment_in, pair_along, lowered}
@@ -13,7 +13,7 @@ use Rattle.search.specs.Best.{Safe, LeastSum}
 use Rattle.search.proofs.Along.{meets_safe}
 
 pub fails_below : (m : Meaning) (lines : List Line) (floor p : Pair) (d : Direction) → LeastSum (Safe m lines floor) p
-    → (moment_in d p ≡ moment_in d floor → ⊥) → All (λ l. passed_by m (lowered d p) l ≡ true) lines → ⊥
+    → (moment_in d p ≡ moment_in d floor → ⊥) → AllByRecursion (λ l. passed_by m (lowered d p) l ≡ true) lines → ⊥
 fails_below m lines floor p d least ne pass =
     let s = least.belongs in
     let z = moment_in d p - 1 in

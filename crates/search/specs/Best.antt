@@ -1,6 +1,6 @@
 -- The safe pairs of a face, and the best of them by a ranking. Assumes nothing.
 use Rattle.std.specs.Prelude.{◌≤◌, Bool, T, List, Some, None, Option, ◌≢◌}
-use Rattle.std.specs.List.{AllByRecursion as All}
+use Rattle.std.specs.List.{AllByRecursion}
 use Rattle.moments.specs.Meanings.{Meaning}
 use Rattle.moments.specs.Pairs.{moment_in, sum}
 use Rattle.moments.specs.declared.pair.Direction.{Direction}
@@ -12,7 +12,7 @@ use Rattle.table.specs.declared.line.Line.{Line}
 pub record Safe (m : Meaning) (lines : List Line) (floor p : Pair) : Type 0 where
   pub above : (d : Direction) → moment_in d floor ≤ moment_in d p
   pub below : (d : Direction) → moment_in d p ≤ m.ceiling
-  pub passed : All (λ l. T (passed_by m p l)) lines
+  pub passed : AllByRecursion (λ l. T (passed_by m p l)) lines
 
 -- p is one of the pairs S, and it is preferred to every other pair of S
 pub record Best (ahead : Pair → Pair → Bool) (S : Pair → Type 0) (p : Pair) : Type 0 where

@@ -1,6 +1,6 @@
 -- There is exactly one best pair. Assumes nothing.
 use Rattle.std.specs.Prelude.{◌≡◌, ◌≤◌, Bool, T, List}
-use Rattle.std.specs.List.{AllByRecursion as All}
+use Rattle.std.specs.List.{AllByRecursion}
 use Rattle.moments.specs.Meanings.{Meaning, Lawful}
 use Rattle.moments.specs.Pairs.{moment_in}
 use Rattle.moments.specs.Triads.{in_limits}
@@ -12,7 +12,7 @@ use Rattle.search.specs.Rankings.{Ranks}
 
 -- a question that has an answer: every triad is within its limits, and no floor is above the ceiling
 pub record Posed (m : Meaning) (lines : List Line) (floor : Pair) : Type 0 where
-  pub limited : All (λ l. T (in_limits l.triad)) lines
+  pub limited : AllByRecursion (λ l. T (in_limits l.triad)) lines
   pub low : (d : Direction) → moment_in d floor ≤ m.ceiling
 
 -- by every ranking and for every lawful rule, each such question has a best pair

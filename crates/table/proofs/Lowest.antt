@@ -2,13 +2,13 @@
 use Rattle.std.proofs.Common.{◌≡◌, ℕ, ◌<◌, Bool, true, List, [], ◌∷◌, Some, None, Option, refl, inl, inr, arith}
 use Rattle.std.proofs.ByRecursion.{All-weaker}
 use Rattle.std.proofs.lemmas.Bool.{ltb-true, and_parts, cond_both}
-use Rattle.std.specs.List.{AllByRecursion as All}
+use Rattle.std.specs.List.{AllByRecursion}
 use Rattle.table.specs.Failing.{first_failing, FirstToFail}
 use Rattle.table.specs.Lines.{leads, climbing}
 use Rattle.table.specs.declared.line.Line.{Line}
 
 -- every line of a list that rises from n on has a higher number
-pub all_above : (n : ℕ) (ls : List Line) → leads n ls ≡ true → climbing ls ≡ true → All (λ l. n < l.number) ls
+pub all_above : (n : ℕ) (ls : List Line) → leads n ls ≡ true → climbing ls ≡ true → AllByRecursion (λ l. n < l.number) ls
 all_above n [] h c = tt
 all_above n (l ∷ ls) h c =
     let p = and_parts (leads l.number ls) (climbing ls) c in

@@ -1,6 +1,6 @@
 -- Lists of lines that rise: what entering and withdrawing a line leave. Assumes nothing.
 use Rattle.std.proofs.Common.{◌≡◌, ℕ, zero, suc, ◌<◌, true, false, cond, T, eqb, ltb, List, [], ◌∷◌, sym, refl, ap, subst, arith}
-use Rattle.std.specs.List.{insert, remove, AllByRecursion as All}
+use Rattle.std.specs.List.{insert, remove, AllByRecursion}
 use Rattle.moments.specs.Triads.{in_limits}
 use Rattle.std.proofs.lemmas.Bool.{ltb-true, ltb-false, eqb-false, lt-ltb, and_parts, and_from, or_parts, cond_both}
 use Rattle.table.specs.declared.line.Line.{Line}
@@ -63,7 +63,7 @@ sound_removed (l ∷ ls) (suc i) c =
     let p = and_parts (sound l) (all_sound ls) c in and_from (sound l) _ p.0 (sound_removed ls i p.1)
 
 -- the moments of lines within their limits
-pub all_limited : (ls : List Line) → all_sound ls ≡ true → All (λ l. T (in_limits l.triad)) ls
+pub all_limited : (ls : List Line) → all_sound ls ≡ true → AllByRecursion (λ l. T (in_limits l.triad)) ls
 all_limited [] h = tt
 all_limited (l ∷ ls) h =
     let p = and_parts (sound l) (all_sound ls) h in

@@ -1,6 +1,6 @@
 -- Which line fails a pair. Assumes nothing.
 use Rattle.std.specs.Prelude.{◌≡◌, ℕ, ◌<◌, Bool, true, false, cond, ◌⊎◌, List, [], ◌∷◌, Some, None, Option}
-use Rattle.std.specs.List.{AllByRecursion as All}
+use Rattle.std.specs.List.{AllByRecursion}
 use Rattle.moments.specs.Meanings.{Meaning, passed_at}
 use Rattle.moments.specs.declared.pair.Pair.{Pair}
 use Rattle.table.specs.declared.line.Line.{Line}
@@ -22,9 +22,9 @@ Any P (l ∷ ls) = P l ⊎ Any P ls
 -- a line of the number n fails the test, and every line of a lower number passes it
 pub record LowestFailing (test : Line → Bool) (ls : List Line) (n : ℕ) : Type 0 where
   pub fails : Any (λ l. (l.number ≡ n) × (test l ≡ false)) ls
-  pub lower : All (λ l. l.number < n → test l ≡ true) ls
+  pub lower : AllByRecursion (λ l. l.number < n → test l ≡ true) ls
 
 -- the lowest number of a line that fails, or none exactly where every line passes
 abbrev pub FirstToFail : (Line → Bool) → List Line → Option ℕ → Type 0
-FirstToFail test ls None = All (λ l. test l ≡ true) ls
+FirstToFail test ls None = AllByRecursion (λ l. test l ≡ true) ls
 FirstToFail test ls (Some n) = LowestFailing test ls n

@@ -2,13 +2,13 @@
 use Rattle.std.proofs.Common.{◌≡◌, ℕ, ◌<◌, Bool, true, List, [], ◌∷◌, Some, None, Option, refl, inl, inr, arith}
 use Rattle.std.proofs.ByRecursion.{All-weaker}
 use Rattle.std.proofs.lemmas.Bool.{ltb-true, and_parts, cond_both}
-use Rattle.std.specs.List.{AllByRecursion as All}
+use Rattle.std.specs.List.{AllByRecursion}
 use Rattle.trial.specs.Checking.{first_failing, FirstToFail}
 use Rattle.trial.specs.Lists.{leads, climbing}
 use Rattle.trial.specs.declared.case.Case.{Case}
 
 -- every case of a list that rises from n on has a higher number
-above : (n : ℕ) (cs : List Case) → leads n cs ≡ true → climbing cs ≡ true → All (λ c. n < c.number) cs
+above : (n : ℕ) (cs : List Case) → leads n cs ≡ true → climbing cs ≡ true → AllByRecursion (λ c. n < c.number) cs
 above n [] l h = tt
 above n (c ∷ cs) l h =
     let p = and_parts (leads c.number cs) (climbing cs) h in

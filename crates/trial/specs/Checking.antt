@@ -1,6 +1,6 @@
 -- Which case fails a trial pair. Assumes nothing.
 use Rattle.std.specs.Prelude.{◌≡◌, ℕ, ◌<◌, Bool, true, false, cond, ◌&&◌, List, [], ◌∷◌, Some, None, Ok, Err, Option, Result, nat_le}
-use Rattle.std.specs.List.{AllByRecursion as All}
+use Rattle.std.specs.List.{AllByRecursion}
 use Rattle.moments.specs.Meanings.{Meaning, passed}
 use Rattle.moments.specs.declared.pair.Pair.{Pair}
 use Rattle.moments.specs.declared.refusal.Refusal.{Refusal}
@@ -23,8 +23,8 @@ checked m p cs = cond (nat_le p.mx m.ceiling && nat_le p.my m.ceiling) (Ok (firs
 
 -- every case passes; or a case of the number named fails, and every case of a lower number passes
 abbrev pub FirstToFail : (Case → Bool) → List Case → Option ℕ → Type 0
-FirstToFail test cs None = All (λ c. test c ≡ true) cs
-FirstToFail test cs (Some n) = Any (λ c. (c.number ≡ n) × (test c ≡ false)) cs × All (λ c. c.number < n → test c ≡ true) cs
+FirstToFail test cs None = AllByRecursion (λ c. test c ≡ true) cs
+FirstToFail test cs (Some n) = Any (λ c. (c.number ≡ n) × (test c ≡ false)) cs × AllByRecursion (λ c. c.number < n → test c ≡ true) cs
 
 -- the same of what a check answers
 abbrev pub LowestNamed : Meaning → Pair → List Case → Result (Option ℕ) Refusal → Type 0
