@@ -1,6 +1,6 @@
 ghost use Rattle.std.proofs.Common.{rules};
 
-use moments::pair::Pair;
+use moments::pair::{Direction, Pair};
 use moments::rule::{DirectRule, YieldRule};
 use moments::triad::Triad;
 use std::cell::Cell;
@@ -36,14 +36,12 @@ impl<R: YieldRule, L: Listener> YieldRule for Heard<R, L> {
 }
 
 impl<R: DirectRule, L: Listener> DirectRule for Heard<R, L> {
-    fn least_my(&self, triad: Triad, mx: u32) -> Option<u32> {
-        self.listener.column();
-        self.rule.least_my(triad, mx)
-    }
-
-    fn least_mx(&self, triad: Triad, my: u32) -> Option<u32> {
-        self.listener.row();
-        self.rule.least_mx(triad, my)
+    fn least_partner(&self, triad: Triad, direction: Direction, partner: u32) -> Option<u32> {
+        match direction {
+            Direction::X => self.listener.row(),
+            Direction::Y => self.listener.column(),
+        }
+        self.rule.least_partner(triad, direction, partner)
     }
 }
 

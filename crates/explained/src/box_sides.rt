@@ -2,7 +2,7 @@ ghost use Rattle.std.specs.Prelude.{◌≡◌};
 ghost use Rattle.explained.specs.Inequalities.{box_sides};
 ghost use Rattle.std.proofs.Common.{rules};
 
-use crate::margins::against_topped;
+use crate::margins::{against, topped};
 use crate::sides::{Explained, Sides, if_asked};
 use moments::pair::Pair;
 use moments::triad::Triad;
@@ -24,8 +24,8 @@ fn both_sides(triad: Triad, pair: Pair) -> Sides
 {
     let twist = triad.mxy.unsigned_abs();
     Sides {
-        mx: against_topped(pair.mx, triad.mx, twist),
-        my: against_topped(pair.my, triad.my, twist),
+        mx: against(pair.mx, topped(triad.mx, twist)),
+        my: against(pair.my, topped(triad.my, twist)),
         product: None,
     }
 }

@@ -5,13 +5,15 @@ ghost use Rattle.rules.specs.Boxing.{box_lawful};
 ghost use Rattle.std.proofs.Common.{rules};
 
 use crate::sides::{Explained, Sides};
-use moments::pair::Pair;
+use moments::pair::{Direction, Pair};
 use moments::rule::{DirectRule, YieldRule};
 use moments::triad::Triad;
 use rules::box_rule::BoxRule;
 use rules::yield_rule::Yield;
+use std::fmt;
 
-// A delivered rule, chosen by its name: it asks the rule of that name.
+// A delivered rule, chosen by its name: it asks the rule of that name. Each method has its own `match`, since no contract can speak
+// of a closure over a `&dyn` rule yet, and no function may hand a `dyn` out.
 #[derive(Clone, Copy, PartialEq, Eq, Debug)]
 pub enum Chosen {
     Yield,
@@ -39,17 +41,10 @@ impl YieldRule for Chosen {
 }
 
 impl DirectRule for Chosen {
-    fn least_my(&self, triad: Triad, mx: u32) -> Option<u32> {
+    fn least_partner(&self, triad: Triad, direction: Direction, partner: u32) -> Option<u32> {
         match self {
-            Chosen::Yield => Yield.least_my(triad, mx),
-            Chosen::Box => BoxRule.least_my(triad, mx),
-        }
-    }
-
-    fn least_mx(&self, triad: Triad, my: u32) -> Option<u32> {
-        match self {
-            Chosen::Yield => Yield.least_mx(triad, my),
-            Chosen::Box => BoxRule.least_mx(triad, my),
+            Chosen::Yield => Yield.least_partner(triad, direction, partner),
+            Chosen::Box => BoxRule.least_partner(triad, direction, partner),
         }
     }
 }
@@ -64,5 +59,14 @@ impl Explained for Chosen {
             Chosen::Yield => Yield.sides(triad, pair),
             Chosen::Box => BoxRule.sides(triad, pair),
         }
+    }
+}
+
+impl fmt::Display for Chosen {
+    fn fmt<W: fmt::Write>(&self, f: &mut fmt::Formatter<W>) -> fmt::Result {
+        f.write_str(match self {
+            Chosen::Yield => "the yield rule",
+            Chosen::Box => "the box rule",
+        })
     }
 }

@@ -4,24 +4,21 @@ ghost use Rattle.explained.specs.Holding.{inequality};
 
 use crate::sides::Side;
 
-// A yield moment against a bending moment.
-pub(crate) fn against(moment: u32, bending: i32) -> Side
-    ensures { result ≡ inequality (pos moment) bending }
+// A yield moment against what it has to reach.
+pub(crate) fn against(moment: u32, needed: i64) -> Side
+    ensures { result ≡ inequality (pos moment) needed }
 {
     Side {
-        given: moment as i128,
-        needed: bending as i128,
+        given: i128::from(moment),
+        needed: i128::from(needed),
     }
 }
 
-// A yield moment against a bending moment with `more` on top.
-pub(crate) fn against_topped(moment: u32, bending: i32, more: u32) -> Side
-    ensures { result ≡ inequality (pos moment) (bending +ℤ pos more) }
+// A bending moment with `more` on top.
+pub(crate) fn topped(bending: i32, more: u32) -> i64
+    ensures { result ≡ bending +ℤ pos more }
 {
-    Side {
-        given: moment as i128,
-        needed: bending as i128 + more as i128,
-    }
+    i64::from(bending) + i64::from(more)
 }
 
 // How far a yield moment stands above a bending moment, below 0 where it stands below.

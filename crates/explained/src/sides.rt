@@ -10,6 +10,7 @@ use moments::pair::Pair;
 use moments::rule::{DirectRule, YieldRule};
 use moments::triad::Triad;
 use moments::turned::Turned;
+use std::fmt;
 
 // One inequality: what the pair gives and what the load case needs. It holds where the first is at least the second.
 // The numbers are wide enough for the product of any two margins.
@@ -36,6 +37,23 @@ impl Side {
     }
 }
 
+impl fmt::Display for Side {
+    fn fmt<W: fmt::Write>(&self, f: &mut fmt::Formatter<W>) -> fmt::Result {
+        let sign = if self.holds() { ">=" } else { "<" };
+        write!(f, "{} {sign} {}", self.given, self.needed)
+    }
+}
+
+impl fmt::Display for Sides {
+    fn fmt<W: fmt::Write>(&self, f: &mut fmt::Formatter<W>) -> fmt::Result {
+        write!(f, "mx {}, my {}", self.mx, self.my)?;
+        match self.product {
+            Some(product) => write!(f, ", product of both margins against Mxy squared {product}"),
+            None => Ok(()),
+        }
+    }
+}
+
 // A rule that explains its answer: it passes a pair exactly where each of its inequalities holds.
 pub trait Explained: DirectRule {
     ghost inequalities: { Self → Triad → ℕ → ℕ → Sides };
@@ -56,12 +74,7 @@ pub(crate) fn if_asked<R: YieldRule>(
 ) -> Option<Sides>
     ensures { result ≡ (if asked (R.YieldRule.meaning rule.now) triad pair.mx pair.my then Some sides else None) }
 {
-    let ceiling = rule.ceiling();
-    if triad.in_limits() && pair.mx <= ceiling && pair.my <= ceiling {
-        Some(sides)
-    } else {
-        None
-    }
+    (triad.in_limits() && pair.within(rule.ceiling())).then_some(sides)
 }
 
 // A rule turned over has the inequalities of the rule for the triad with all three moments negated.
@@ -71,9 +84,7 @@ impl<R: Explained> Explained for Turned<R> {
     ghost decides = { λ r t x y. R.Explained.decides r.rule (negated_triad t) x y };
 
     fn sides(&self, triad: Triad, pair: Pair) -> Option<Sides> {
-        match triad.negated() {
-            Some(turned) => self.rule.sides(turned, pair),
-            None => None,
-        }
+        let turned = triad.negated()?;
+        self.rule.sides(turned, pair)
     }
 }

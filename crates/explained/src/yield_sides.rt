@@ -23,8 +23,8 @@ fn both_sides(triad: Triad, pair: Pair) -> Sides
     ensures { result ≡ yield_sides triad pair.mx pair.my }
 {
     Sides {
-        mx: against(pair.mx, triad.mx),
-        my: against(pair.my, triad.my),
+        mx: against(pair.mx, i64::from(triad.mx)),
+        my: against(pair.my, i64::from(triad.my)),
         product: Some(product(triad, pair)),
     }
 }

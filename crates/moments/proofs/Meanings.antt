@@ -1,5 +1,5 @@
 -- What follows from a rule's answer and from its laws, and the two bar directions exchanged. Assumes nothing.
-use Rattle.std.proofs.Common.{◌≡◌, ℕ, ◌≤◌, Bool, false, ◌&&◌, T, ltb, leb, ap, le_refl, le→leb}
+use Rattle.std.proofs.Common.{◌≡◌, ℕ, ◌≤◌, Bool, false, ◌&&◌, T, Option, ltb, leb, ap, le_refl, le→leb}
 use Rattle.std.proofs.lemmas.Bool.{or_parts, ltb-false}
 use Rattle.moments.specs.Meanings.{Meaning, Lawful, asked, passed, passed_at, above_ceiling}
 use Rattle.moments.specs.Pairs.{moment_in}
@@ -11,14 +11,20 @@ use Rattle.moments.specs.declared.triad.Triad.{Triad}
 use Rattle.moments.specs.Tests.{both, join, and_yes, and_comm}
 use Rattle.moments.proofs.Pairs.{both_ways}
 use Rattle.moments.specs.TriadsLemmas.{in_limits_exchanged}
+use Rattle.moments.specs.Partners.{LeastMy, LeastMx}
+use Rattle.moments.proofs.Partners.{partner_like}
 
 -- within the limits and up to the ceiling a rule answers by its meaning alone
 pub passed_within : (m : Meaning) (t : Triad) (x y : ℕ) → T (in_limits t) → x ≤ m.ceiling → y ≤ m.ceiling → passed m t x y ≡ m.passing t x y
 passed_within m t x y i h k = and_yes (asked m t x y) _ (join _ _ i (join _ _ (le→leb x _ h) (le→leb y _ k)))
 
 -- a rule that treats both directions alike answers alike for the exchanged triad and pair
-pub exchanged_passed : (m : Meaning) → ((t : Triad) (x y : ℕ) → m.passing (exchanged_triad t) y x ≡ m.passing t x y) → (t : Triad) (x y : ℕ) → passed m (exchanged_triad t) y x ≡ passed m t x y
+exchanged_passed : (m : Meaning) → ((t : Triad) (x y : ℕ) → m.passing (exchanged_triad t) y x ≡ m.passing t x y) → (t : Triad) (x y : ℕ) → passed m (exchanged_triad t) y x ≡ passed m t x y
 exchanged_passed m e t x y = simp (in_limits_exchanged, e) (ap (λ (b : Bool). (in_limits t && b) && m.passing t x y) (and_comm (leb y m.ceiling) (leb x m.ceiling)))
+
+-- and its least my for the exchanged triad is its least mx
+pub exchanged_partner : (m : Meaning) → ((t : Triad) (x y : ℕ) → m.passing (exchanged_triad t) y x ≡ m.passing t x y) → (t : Triad) (k : ℕ) (r : Option ℕ) → LeastMy m (exchanged_triad t) k r → LeastMx m t k r
+exchanged_partner m e t k r h = partner_like _ _ _ _ (λ x _. exchanged_passed m e t x k) h
 
 -- what a rule passes is passed by its meaning
 pub passing_of : (m : Meaning) (t : Triad) (x y : ℕ) → T (passed m t x y) → T (m.passing t x y)

@@ -1,5 +1,5 @@
 -- Pairs by their two bar directions, so that one definition serves both. Assumes nothing.
-use Rattle.std.specs.Prelude.{ℕ, ◌+◌, ◌-◌}
+use Rattle.std.specs.Prelude.{ℕ, Bool, ◌&&◌, ◌+◌, ◌-◌, nat_le}
 use Rattle.moments.specs.declared.pair.Direction.{Direction}
 use Rattle.moments.specs.declared.pair.Direction.TheVariants.{X, Y}
 use Rattle.moments.specs.declared.pair.Pair.{Pair}
@@ -26,3 +26,7 @@ sum p = p.mx + p.my
 -- the pair with the moment in a direction one unit less
 abbrev pub lowered : Direction → Pair → Pair
 lowered d p = pair_along d (moment_in d p - 1) (moment_in (crossing d) p)
+
+-- both moments are at most a ceiling
+abbrev pub within : ℕ → Pair → Bool
+within ceiling p = nat_le p.mx ceiling && nat_le p.my ceiling

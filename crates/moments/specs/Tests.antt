@@ -45,6 +45,11 @@ pub some_by_test : {A : Type 0} (b : Bool) (s t : A) → Some s ≡ cond b (Some
 some_by_test true s t e = (refl, cc)
 some_by_test false s t e = let z : ◌≡◌ {A = ℕ} 0 1 = cc in absurd (omega arith)
 
+-- nothing comes out only of a test's no
+pub none_by_test : {A : Type 0} (b : Bool) (t : A) → None ≡ cond b (Some t) None → false ≡ b
+none_by_test true t e = let z : ◌≡◌ {A = ℕ} 0 1 = cc in absurd (omega arith)
+none_by_test false t e = refl
+
 -- a test that passes exactly where P holds
 pub decides_test : {P : Type 0} (b : Bool) → (T b → P) → (P → T b) → Decides b P
 decides_test true f g = (λ _. f tt, λ _. refl)

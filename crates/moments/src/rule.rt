@@ -23,36 +23,30 @@ pub trait YieldRule {
 
 // A yield rule that also tells the least partner of a moment: none exactly where no partner from 0 to the ceiling passes.
 pub trait DirectRule: YieldRule {
+    // The least moment in a direction that passes together with `partner` across it.
+    fn least_partner(&self, triad: Triad, direction: Direction, partner: u32) -> Option<u32>
+        ensures { LeastAlong (Self.YieldRule.meaning self.now) triad direction partner result };
+
     // The least my that passes together with mx.
-    fn least_my(&self, triad: Triad, mx: u32) -> Option<u32>
-        ensures { LeastMy (Self.YieldRule.meaning self.now) triad mx result };
+    final fn least_my(&self, triad: Triad, mx: u32) -> Option<u32>
+        ensures { LeastMy (Self.YieldRule.meaning self.now) triad mx result }
+    {
+        self.least_partner(triad, Direction::Y, mx)
+    }
 
     // The least mx that passes together with my.
-    fn least_mx(&self, triad: Triad, my: u32) -> Option<u32>
-        ensures { LeastMx (Self.YieldRule.meaning self.now) triad my result };
+    final fn least_mx(&self, triad: Triad, my: u32) -> Option<u32>
+        ensures { LeastMx (Self.YieldRule.meaning self.now) triad my result }
+    {
+        self.least_partner(triad, Direction::X, my)
+    }
 }
 
 // Whether a moment of the pair is above the rule's ceiling.
 pub fn above_ceiling<R: YieldRule>(rule: &R, pair: Pair) -> bool
     ensures { result ≡ above_ceiling (R.YieldRule.meaning rule.now) pair }
 {
-    let ceiling = rule.ceiling();
-    ceiling < pair.mx || ceiling < pair.my
-}
-
-// The least moment in a direction that passes together with `partner` across it.
-pub fn least_partner<R: DirectRule>(
-    rule: &R,
-    triad: Triad,
-    direction: Direction,
-    partner: u32,
-) -> Option<u32>
-    ensures { LeastAlong (R.YieldRule.meaning rule.now) triad direction partner result }
-{
-    match direction {
-        Direction::X => rule.least_mx(triad, partner),
-        Direction::Y => rule.least_my(triad, partner),
-    }
+    !pair.within(rule.ceiling())
 }
 
 // A least partner is the only answer.

@@ -6,7 +6,7 @@ ghost use Rattle.rules.specs.Criteria.{delivered_ceiling, boxed_at, box_meaning,
 ghost use Rattle.rules.specs.Boxing.{box_lawful};
 
 use crate::direction::{CEILING, least_reaching, reaches};
-use moments::pair::Pair;
+use moments::pair::{Direction, Pair};
 use moments::rule::{DirectRule, YieldRule};
 use moments::triad::Triad;
 
@@ -27,18 +27,16 @@ impl YieldRule for BoxRule {
         ensures answer { result ≡ passed box_meaning triad pair.mx pair.my }
         ensures criterion { T (in_limits triad) → pair.mx ≤ delivered_ceiling → pair.my ≤ delivered_ceiling → Decides result (Boxed triad pair.mx pair.my) }
     {
-        triad.in_limits() && pair.mx <= CEILING && pair.my <= CEILING && boxed(triad, pair)
+        triad.in_limits() && pair.within(CEILING) && boxed(triad, pair)
     }
 }
 
 impl DirectRule for BoxRule {
-    fn least_my(&self, triad: Triad, mx: u32) -> Option<u32> {
-        least_partner(triad, mx)
-    }
-
-    fn least_mx(&self, triad: Triad, my: u32) -> Option<u32> {
-        let across = triad.exchanged();
-        least_partner(across, my)
+    fn least_partner(&self, triad: Triad, direction: Direction, partner: u32) -> Option<u32> {
+        match direction {
+            Direction::X => least_my(triad.exchanged(), partner),
+            Direction::Y => least_my(triad, partner),
+        }
     }
 }
 
@@ -50,7 +48,7 @@ fn boxed(triad: Triad, pair: Pair) -> bool
 }
 
 // The least my that goes with mx.
-fn least_partner(triad: Triad, mx: u32) -> Option<u32>
+fn least_my(triad: Triad, mx: u32) -> Option<u32>
     ensures { Partner delivered_ceiling (λ y. passed box_meaning triad mx y) result }
 {
     if !triad.in_limits() || CEILING < mx {

@@ -13,12 +13,7 @@ pub const CEILING: u32 = 2 * MOMENT_LIMIT as u32;
 pub(crate) fn margin(moment: u32, bending: i32) -> Option<u64>
     ensures { Margin moment bending result }
 {
-    let difference = moment as i64 - bending as i64;
-    if difference < 0 {
-        None
-    } else {
-        Some(difference as u64)
-    }
+    u64::try_from(moment as i64 - bending as i64).ok()
 }
 
 // Whether a yield moment reaches a bending moment with `more` on top.

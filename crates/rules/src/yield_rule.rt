@@ -6,7 +6,7 @@ ghost use Rattle.rules.specs.Criteria.{delivered_ceiling, yields_at, yield_meani
 ghost use Rattle.rules.specs.Yielding.{yield_lawful};
 
 use crate::direction::{CEILING, least_factor, least_reaching, margin, square};
-use moments::pair::Pair;
+use moments::pair::{Direction, Pair};
 use moments::rule::{DirectRule, YieldRule};
 use moments::triad::Triad;
 
@@ -28,18 +28,16 @@ impl YieldRule for Yield {
         ensures answer { result ≡ passed yield_meaning triad pair.mx pair.my }
         ensures criterion { T (in_limits triad) → pair.mx ≤ delivered_ceiling → pair.my ≤ delivered_ceiling → Decides result (Yields triad pair.mx pair.my) }
     {
-        triad.in_limits() && pair.mx <= CEILING && pair.my <= CEILING && yields(triad, pair)
+        triad.in_limits() && pair.within(CEILING) && yields(triad, pair)
     }
 }
 
 impl DirectRule for Yield {
-    fn least_my(&self, triad: Triad, mx: u32) -> Option<u32> {
-        least_partner(triad, mx)
-    }
-
-    fn least_mx(&self, triad: Triad, my: u32) -> Option<u32> {
-        let across = triad.exchanged();
-        least_partner(across, my)
+    fn least_partner(&self, triad: Triad, direction: Direction, partner: u32) -> Option<u32> {
+        match direction {
+            Direction::X => least_my(triad.exchanged(), partner),
+            Direction::Y => least_my(triad, partner),
+        }
     }
 }
 
@@ -57,7 +55,7 @@ fn yields(triad: Triad, pair: Pair) -> bool
 }
 
 // The least my that goes with mx.
-fn least_partner(triad: Triad, mx: u32) -> Option<u32>
+fn least_my(triad: Triad, mx: u32) -> Option<u32>
     ensures { Partner delivered_ceiling (λ y. passed yield_meaning triad mx y) result }
 {
     if !triad.in_limits() || CEILING < mx {

@@ -3,7 +3,7 @@ ghost use Rattle.search.specs.Best.{Safe};
 ghost use Rattle.search.specs.Steps.{SmallestIfAny};
 
 use moments::pair::{Direction, Pair};
-use moments::rule::{DirectRule, least_partner};
+use moments::rule::DirectRule;
 use table::line::Line;
 
 // The least moment in a direction that is safe together with `partner` across it, or none where there is none.
@@ -23,7 +23,7 @@ pub(crate) fn least_safe<R: DirectRule>(
     }
     let mut need = low;
     for line in lines {
-        need = need.max(least_partner(rule, line.triad, direction, partner)?);
+        need = need.max(rule.least_partner(line.triad, direction, partner)?);
     }
     Some(need)
 }
