@@ -1,7 +1,7 @@
 use Rattle.std.proofs.Common.{take}
 use Rattle.search.specs.Steps.{Smallest}
 use Rattle.search.proofs.Along.{Meets, along}
-use Rattle.search.proofs.least.least_safe.Given as goal
+use Rattle.search.proofs.question.Question.least_safe.Given as goal
 
 -- `need` is the least that the lines so far pass
 abbrev pub invariant-loop-line : goal.invariant-loop-line
