@@ -1,4 +1,5 @@
 pub mod Along
+pub mod Lowest
 pub mod Ranked
 pub mod Skips
 pub mod Failing

@@ -1,5 +1,6 @@
 pub mod Rankings
 pub mod Best
+pub mod Questions
 pub mod Stops
 pub mod Carried
 pub mod Existence

@@ -12,6 +12,17 @@ abbrev pub SmallestIfAny : (ℕ → Type 0) → Option ℕ → Type 0
 SmallestIfAny P (Some y) = Smallest P y
 SmallestIfAny P None = (z : ℕ) → P z → ⊥
 
+-- p is one of the pairs S, in a column, and none of S in that column has a smaller my
+pub record Lowest (S : Pair → Type 0) (column : ℕ) (p : Pair) : Type 0 where
+  pub belongs : S p
+  pub there : p.mx ≡ column
+  pub least : (q : Pair) → S q → q.mx ≡ column → p.my ≤ q.my
+
+-- such a pair, or none exactly where S has no pair in the column
+abbrev pub LowestIfAny : (Pair → Type 0) → ℕ → Option Pair → Type 0
+LowestIfAny S column (Some p) = Lowest S column p
+LowestIfAny S column None = (q : Pair) → S q → q.mx ≡ column → ⊥
+
 -- one of the pairs S, or none exactly where S has no pair
 abbrev pub SomeOfThem : (Pair → Type 0) → Option Pair → Type 0
 SomeOfThem S (Some p) = S p

@@ -4,6 +4,7 @@
 pub mod best;
 pub mod laws;
 mod least;
+mod question;
 pub mod ranking;
 mod seed;
 pub mod stop;

@@ -28,6 +28,6 @@ impl Ranking for LeastMx {
     fn prefers(&self, one: Pair, other: Pair) -> bool {
         let sum = one.mx as u64 + one.my as u64;
         let other_sum = other.mx as u64 + other.my as u64;
-        sum < other_sum || sum == other_sum && one.mx < other.mx
+        (sum, one.mx) < (other_sum, other.mx)
     }
 }

@@ -8,7 +8,7 @@ pub enum Stop {
 }
 
 // The best pair of a face, with the stop of each moment.
-#[derive(Clone, Copy)]
+#[derive(Clone, Copy, PartialEq, Eq, Debug)]
 pub struct Carried {
     pub pair: Pair,
     pub mx_stop: Stop,

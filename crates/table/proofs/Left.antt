@@ -1,28 +1,17 @@
 -- A loop over lines, by what is left of the list. Assumes nothing.
-use Rattle.std.proofs.Common.{◌≡◌, ℕ, suc, ◌+◌, ◌<◌, ◌≤◌, Bool, true, false, List, length, get_or, drop, Some, None, ◌∙◌}
+use Rattle.std.proofs.Common.{◌≡◌, ℕ, ◌+◌, ◌<◌, ◌≤◌, Bool, true, false, List, length, get_or, drop, Some, None, ◌∙◌}
 use Rattle.std.proofs.lemmas.List.{at_drop_more, at_drop_all}
-use Rattle.std.proofs.lemmas.Bool.{lt-ltb, le-ltb, cond-true, cond-false}
+use Rattle.std.proofs.lemmas.Bool.{cond-true, cond-false}
 use Rattle.table.specs.Failing.{first_failing}
-use Rattle.table.specs.Lines.{rank}
 use Rattle.table.specs.declared.line.Line.{Line}
 
 -- d is what a read past the end would give
-module _ (xs : List Line) (i : ℕ) (d : Line) (h : i < length xs) where
-  pub rank_here : (n : ℕ) → n ≤ (get_or xs i d).number → rank n (drop i xs) ≡ 0
-  rank_here n le = at_drop_more (rank n) xs i d h ∙ cond-false _ _ _ (le-ltb _ _ le)
+module _ (test : Line → Bool) (xs : List Line) (i : ℕ) where
+  pub failing_here : (d : Line) → i < length xs → test (get_or xs i d) ≡ false → first_failing test (drop i xs) ≡ Some (get_or xs i d).number
+  failing_here d h f = at_drop_more (first_failing test) xs i d h ∙ cond-false _ _ _ f
 
-  pub rank_next : (n : ℕ) → (get_or xs i d).number < n → rank n (drop i xs) ≡ suc (rank n (drop (i + 1) xs))
-  rank_next n lt = at_drop_more (rank n) xs i d h ∙ cond-true _ _ _ (lt-ltb _ _ lt)
+  pub failing_next : (d : Line) → i < length xs → test (get_or xs i d) ≡ true → first_failing test (drop i xs) ≡ first_failing test (drop (i + 1) xs)
+  failing_next d h t = at_drop_more (first_failing test) xs i d h ∙ cond-true _ _ _ t
 
-  pub failing_here : (test : Line → Bool) → test (get_or xs i d) ≡ false → first_failing test (drop i xs) ≡ Some (get_or xs i d).number
-  failing_here test f = at_drop_more (first_failing test) xs i d h ∙ cond-false _ _ _ f
-
-  pub failing_next : (test : Line → Bool) → test (get_or xs i d) ≡ true → first_failing test (drop i xs) ≡ first_failing test (drop (i + 1) xs)
-  failing_next test t = at_drop_more (first_failing test) xs i d h ∙ cond-true _ _ _ t
-
-module _ (xs : List Line) (i : ℕ) (h : length xs ≤ i) where
-  pub rank_end : (n : ℕ) → rank n (drop i xs) ≡ 0
-  rank_end n = at_drop_all (rank n) xs i h
-
-  pub failing_end : (test : Line → Bool) → first_failing test (drop i xs) ≡ None
-  failing_end test = at_drop_all (first_failing test) xs i h
+  pub failing_end : length xs ≤ i → first_failing test (drop i xs) ≡ None
+  failing_end h = at_drop_all (first_failing test) xs i h

@@ -1,5 +1,5 @@
 -- In lines that rise, the first that fails has the lowest number of those that fail. Assumes nothing.
-use Rattle.std.proofs.Common.{◌≡◌, ℕ, ◌<◌, Bool, true, List, [], ◌∷◌, Some, None, Option, refl, inl, inr, arith}
+use Rattle.std.proofs.Common.{◌≡◌, ℕ, ◌<◌, Bool, true, List, [], ◌∷◌, Some, None, Option, IsSome, refl, inl, inr, arith}
 use Rattle.std.proofs.ByRecursion.{All-weaker}
 use Rattle.std.proofs.lemmas.Bool.{ltb-true, and_parts, cond_both}
 use Rattle.std.specs.List.{AllByRecursion}
@@ -31,3 +31,8 @@ first_to_fail test (l ∷ ls) c =
       fails = inl (refl, e);
       lower = (λ k. absurd (omega arith), All-weaker _ _ (λ d k q. absurd (omega arith)) ls (all_above l.number ls p.0 p.1));
     })
+
+-- where not every line passes, one is named
+pub some_fails : (test : Line → Bool) (ls : List Line) (o : Option ℕ) → FirstToFail test ls o → (AllByRecursion (λ l. test l ≡ true) ls → ⊥) → IsSome o
+some_fails test ls None all not_all = absurd (not_all all)
+some_fails test ls (Some n) f not_all = refl

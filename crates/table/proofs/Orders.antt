@@ -1,17 +1,10 @@
 -- Lists of lines that rise: what entering and withdrawing a line leave. Assumes nothing.
-use Rattle.std.proofs.Common.{◌≡◌, ℕ, zero, suc, ◌<◌, true, false, cond, T, eqb, ltb, List, [], ◌∷◌, sym, refl, ap, subst, arith}
-use Rattle.std.specs.List.{insert, remove, AllByRecursion}
+use Rattle.std.proofs.Common.{◌≡◌, ℕ, zero, suc, ◌<◌, true, false, T, eqb, ltb, List, [], ◌∷◌, sym, refl, subst, arith}
+use Rattle.std.specs.List.{remove, AllByRecursion}
 use Rattle.moments.specs.Triads.{in_limits}
 use Rattle.std.proofs.lemmas.Bool.{ltb-true, ltb-false, eqb-false, lt-ltb, and_parts, and_from, or_parts, cond_both}
 use Rattle.table.specs.declared.line.Line.{Line}
-use Rattle.table.specs.Lines.{is_number, sound, all_sound, leads, climbing, stands, entered, rank}
-
-pub entered_inserted : (k : Line) (ls : List Line) → entered k ls ≡ insert ls (rank k.number ls) k
-entered_inserted k [] = refl
-entered_inserted k (l ∷ ls) =
-    elim (ltb l.number k.number)
-    as (λ b. cond b (l ∷ entered k ls) (k ∷ (l ∷ ls)) ≡ insert (l ∷ ls) (cond b (suc (rank k.number ls)) 0) k)
-    [ true ↦ ap (λ xs. l ∷ xs) (entered_inserted k ls) | false ↦ refl ]
+use Rattle.table.specs.Lines.{is_number, sound, all_sound, leads, climbing, stands, entered}
 
 pub leads_entered : (n : ℕ) (k : Line) (ls : List Line) → n < k.number → leads n ls ≡ true → leads n (entered k ls) ≡ true
 leads_entered n k [] lt h = lt-ltb _ _ lt

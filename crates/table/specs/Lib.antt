@@ -1,4 +1,5 @@
 pub mod Lines
+pub mod Places
 pub mod Standing
 pub mod Changes
 pub mod Laws

@@ -1,5 +1,6 @@
 -- Lists of load cases, as a table holds them. Assumes nothing.
-use Rattle.std.specs.Prelude.{ℕ, suc, Bool, true, false, cond, ◌&&◌, ◌||◌, List, [], ◌∷◌, Some, None, Option, ◌==◌, nat_le, nat_lt}
+use Rattle.std.specs.Prelude.{ℕ, Bool, true, cond, not, ◌&&◌, List, [], ◌∷◌, Some, None, Option, ◌==◌, nat_le, nat_lt}
+use Rattle.std.specs.List.{list_all, list_any, filter}
 use Rattle.moments.specs.Limits.{last_case}
 use Rattle.moments.specs.Triads.{in_limits}
 use Rattle.moments.specs.declared.triad.Triad.{Triad}
@@ -19,8 +20,7 @@ sound l = is_number l.number && in_limits l.triad
 
 -- every line is so
 abbrev pub all_sound : List Line → Bool
-all_sound [] = true
-all_sound (l ∷ ls) = sound l && all_sound ls
+all_sound = list_all sound
 
 -- n is below the number of the first line, if there is one
 abbrev pub leads : ℕ → List Line → Bool
@@ -34,8 +34,7 @@ climbing (l ∷ ls) = leads l.number ls && climbing ls
 
 -- a line of that number is there
 abbrev pub stands : ℕ → List Line → Bool
-stands n [] = false
-stands n (l ∷ ls) = l.number == n || stands n ls
+stands n = list_any (λ l. l.number == n)
 
 -- the moments under a number: those of its line, or none where no line of that number is there
 abbrev pub triad_under : ℕ → List Line → Option Triad
@@ -49,10 +48,4 @@ entered k (l ∷ ls) = cond (nat_lt l.number k.number) (l ∷ entered k ls) (k �
 
 -- the lines without that of the number n
 abbrev pub withdrawn : ℕ → List Line → List Line
-withdrawn n [] = []
-withdrawn n (l ∷ ls) = cond (l.number == n) (withdrawn n ls) (l ∷ withdrawn n ls)
-
--- how many lines, from the first on, have a number below n
-abbrev pub rank : ℕ → List Line → ℕ
-rank n [] = 0
-rank n (l ∷ ls) = cond (nat_lt l.number n) (suc (rank n ls)) 0
+withdrawn n = filter (λ l. not (l.number == n))

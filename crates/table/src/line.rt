@@ -1,7 +1,7 @@
 use moments::triad::Triad;
 
 // One load case: its number and its moments.
-#[derive(Clone, Copy)]
+#[derive(Clone, Copy, PartialEq, Eq, Debug)]
 pub struct Line {
     pub number: u32,
     pub triad: Triad,

@@ -11,6 +11,7 @@ mod finding;
 mod making;
 
 // The load cases that stand: the first `count` places hold them, in strictly rising order of their numbers, and the others are free.
+// An array and a count, as a table takes the same memory however many lines stand and asks the heap for none.
 #[derive(Clone, Copy)]
 pub struct Table {
     lines: [Line; MOST_LINES],

@@ -1,14 +1,16 @@
 ghost use Rattle.std.specs.Prelude.{◌≡◌, ◌<◌, false, is_ok, IfOk, None, OnOk};
 ghost use Rattle.std.specs.List.{remove};
 ghost use Rattle.moments.specs.Refusals.{refused_by};
-ghost use Rattle.table.specs.Lines.{is_number, entered};
+ghost use Rattle.table.specs.Lines.{entered};
+ghost use Rattle.table.specs.Places.{FitsAt};
 ghost use Rattle.table.specs.Changes.{enter_due, after_enter, withdraw_due, after_withdraw};
 ghost use Rattle.table.specs.Laws.{Stands, OneMore, OneLess};
 ghost use Rattle.table.specs.Standing.{standing};
 
 use crate::line::Line;
+use crate::lines::is_case_number;
 use crate::table::Table;
-use moments::limits::{LAST_CASE, MOST_LINES};
+use moments::limits::MOST_LINES;
 use moments::refusal::Refusal;
 use moments::triad::Triad;
 
@@ -20,8 +22,8 @@ impl Table {
         ensures law { OnOk result (OneMore number triad (standing self.old) (standing self.new)) }
         ensures unchanged { is_ok result ≡ false → self.new ≡ self.old }
     {
-        self.admit(number, triad)?;
-        self.insert(Line { number, triad });
+        let at = self.admit(number, triad)?;
+        self.insert(at, Line { number, triad });
         Ok(())
     }
 
@@ -36,7 +38,7 @@ impl Table {
         if !is_case_number(number) {
             return Err(Refusal::CaseNumber);
         }
-        let Some(at) = self.find(number) else {
+        let Ok(at) = self.find(number) else {
             return Err(Refusal::NotStanding);
         };
         let triad = self.lines[at].triad;
@@ -44,9 +46,10 @@ impl Table {
         Ok(triad)
     }
 
-    // Whether the line may be entered, or which refusal is due.
-    fn admit(&self, number: u32, triad: Triad) -> Result<(), Refusal>
-        ensures { refused_by result ≡ enter_due number triad (standing self.now) }
+    // Where a line that may be entered would stand, or which refusal is due.
+    fn admit(&self, number: u32, triad: Triad) -> Result<usize, Refusal>
+        ensures refusal { refused_by result ≡ enter_due number triad (standing self.now) }
+        ensures place { IfOk result (FitsAt number (standing self.now)) }
     {
         if !is_case_number(number) {
             return Err(Refusal::CaseNumber);
@@ -54,21 +57,21 @@ impl Table {
         if !triad.in_limits() {
             return Err(Refusal::Moment);
         }
-        if self.find(number).is_some() {
+        let Err(at) = self.find(number) else {
             return Err(Refusal::Standing);
-        }
+        };
         if self.count >= MOST_LINES {
             return Err(Refusal::Full);
         }
-        Ok(())
+        Ok(at)
     }
 
-    // Puts the line in its place, past the lines of lower numbers.
-    fn insert(&mut self, line: Line)
-        requires { enter_due line.number line.triad (standing self.old) ≡ None }
+    // Puts a line that may be entered at its place, past the lines of lower numbers.
+    fn insert(&mut self, at: usize, line: Line)
+        requires free { enter_due line.number line.triad (standing self.old) ≡ None }
+        requires fits { FitsAt line.number (standing self.old) at }
         ensures { standing self.new ≡ entered line (standing self.old) }
     {
-        let at = self.rank(line.number);
         let count = self.count;
         self.lines.copy_within(at..count, at + 1);
         self.lines[at] = line;
@@ -84,11 +87,4 @@ impl Table {
         self.lines.copy_within(at + 1..count, at);
         self.count = count - 1;
     }
-}
-
-// Whether a load case may have that number.
-fn is_case_number(number: u32) -> bool
-    ensures { result ≡ is_number number }
-{
-    1 <= number && number <= LAST_CASE
 }

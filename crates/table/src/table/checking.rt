@@ -2,6 +2,7 @@ ghost use Rattle.std.specs.Prelude.{◌≡◌};
 ghost use Rattle.table.specs.Failing.{passed_by, first_failing, FirstToFail};
 ghost use Rattle.table.specs.Standing.{standing};
 
+use crate::lines;
 use crate::table::Table;
 use moments::pair::Pair;
 use moments::rule::YieldRule;
@@ -12,11 +13,6 @@ impl Table {
         ensures value { result ≡ first_failing (passed_by (R.YieldRule.meaning rule.now) pair) (standing self.now) }
         ensures lowest { FirstToFail (passed_by (R.YieldRule.meaning rule.now) pair) (standing self.now) result }
     {
-        for line in self.standing() {
-            if !rule.passes(line.triad, pair) {
-                return Some(line.number);
-            }
-        }
-        None
+        lines::first_failing(rule, self.standing(), pair)
     }
 }

@@ -13,7 +13,7 @@ returns c =
     let n = c.args.number in
     let t = c.args.triad in
     let ls = standing c.args.self.now in
-    let due : enter_due n t ls ≡ None = sym c.in_ok-admit.ensures in
+    let due : enter_due n t ls ≡ None = sym c.in_ok-at.ensures.refusal in
     let e = c.insert.ensures in
     record {
       refusal = sym due;

@@ -1,9 +1,0 @@
-use Rattle.std.proofs.Common.{◌≡◌, drop}
-use Rattle.table.specs.Failing.{first_failing, passed_by}
-use Rattle.table.proofs.table.Table.first_failing.Given as goal
-
--- what is left gives the answer
-abbrev pub invariant-loop-line : goal.invariant-loop-line
-invariant-loop-line g l =
-    let test = passed_by (g.R.YieldRule.meaning l.rule) l.pair in
-    first_failing test (drop l.line-index l.line-items) ≡ first_failing test l.line-items
