@@ -1,4 +1,6 @@
+ghost use Rattle.std.specs.Prelude.{Some};
 ghost use Rattle.explained.specs.Inequalities.{chosen_meaning, chosen_sides};
+ghost use Rattle.explained.specs.Texts.{chosen_text};
 ghost use Rattle.explained.specs.declared.chosen.Chosen.TheVariants.{Yield, Box};
 ghost use Rattle.rules.specs.Yielding.{yield_lawful};
 ghost use Rattle.rules.specs.Boxing.{box_lawful};
@@ -63,6 +65,8 @@ impl Explained for Chosen {
 }
 
 impl fmt::Display for Chosen {
+    ghost output = { λ it. Some (chosen_text it) };
+
     fn fmt<W: fmt::Write>(&self, f: &mut fmt::Formatter<W>) -> fmt::Result {
         f.write_str(match self {
             Chosen::Yield => "the yield rule",

@@ -4,6 +4,7 @@ ghost use Rattle.moments.specs.Meanings.{asked};
 ghost use Rattle.moments.specs.Triads.{negated_triad};
 ghost use Rattle.moments.specs.declared.triad.Triad.{Triad};
 ghost use Rattle.explained.specs.Holding.{holds, all_hold};
+ghost use Rattle.explained.specs.Texts.{side_text, sides_text};
 ghost use Rattle.explained.specs.declared.sides.Sides.{Sides};
 
 use moments::pair::Pair;
@@ -38,6 +39,8 @@ impl Side {
 }
 
 impl fmt::Display for Side {
+    ghost output = { λ it. Some (side_text it) };
+
     fn fmt<W: fmt::Write>(&self, f: &mut fmt::Formatter<W>) -> fmt::Result {
         let sign = if self.holds() { ">=" } else { "<" };
         write!(f, "{} {sign} {}", self.given, self.needed)
@@ -45,11 +48,16 @@ impl fmt::Display for Side {
 }
 
 impl fmt::Display for Sides {
+    ghost output = { λ it. Some (sides_text it) };
+
     fn fmt<W: fmt::Write>(&self, f: &mut fmt::Formatter<W>) -> fmt::Result {
-        write!(f, "mx {}, my {}", self.mx, self.my)?;
-        match self.product {
-            Some(product) => write!(f, ", product of both margins against Mxy squared {product}"),
-            None => Ok(()),
+        let Sides { mx, my, product } = self;
+        match product {
+            Some(product) => write!(
+                f,
+                "mx {mx}, my {my}, product of both margins against Mxy squared {product}"
+            ),
+            None => write!(f, "mx {mx}, my {my}"),
         }
     }
 }

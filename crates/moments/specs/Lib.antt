@@ -5,6 +5,7 @@ pub mod Meanings
 pub mod Partners
 pub mod Turning
 pub mod Refusals
+pub mod Texts
 pub mod TurningLemmas
 pub mod Tests
 pub mod TriadsLemmas
