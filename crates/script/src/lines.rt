@@ -3,7 +3,7 @@ ghost use Rattle.std.specs.Prelude.{◌≡◌, ◌<◌, length};
 ghost use Rattle.script.specs.Lines.{command_of, first_line, after_line};
 
 use crate::command::Command;
-use crate::runs::Run;
+use crate::runs::cut;
 use crate::unreadable::Unreadable;
 use crate::words::Words;
 
@@ -11,15 +11,12 @@ use crate::words::Words;
 pub fn read_line(line: &[u8]) -> Result<Option<Command>, Unreadable>
     ensures { result ≡ command_of line.now }
 {
-    let (text, _) = Run::Text.cut(line);
+    let (text, _) = cut(line, |b| *b == b'#');
     let mut words = Words { rest: text };
-    match words.line() {
-        Ok(command) => Ok(command),
-        Err(stuck) => Err(Unreadable {
-            place: text.len().saturating_sub(stuck.left),
-            why: stuck.why,
-        }),
-    }
+    words.line().map_err(|stuck| Unreadable {
+        place: text.len().saturating_sub(stuck.left),
+        why: stuck.why,
+    })
 }
 
 // The first line of a script without its line feed, and what follows that; the whole script and nothing where it has none.
@@ -28,7 +25,7 @@ pub fn split_line(script: &[u8]) -> (&[u8], &[u8])
     ensures rest { result.1.now ≡ after_line script.now }
     ensures shorter { 0 < length script.now → length result.1.now < length script.now }
 {
-    let (line, rest) = Run::Line.cut(script);
+    let (line, rest) = cut(script, |b| *b == b'\n');
     if rest.is_empty() {
         (line, rest)
     } else {
