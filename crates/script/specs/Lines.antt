@@ -1,6 +1,6 @@
 -- A script, line by line. Assumes nothing.
-use Rattle.std.specs.Prelude.{ℕ, ◌-◌, List, length, Ok, Err, Option, Result}
-use Rattle.std.specs.List.{before_first, after_first}
+use Rattle.std.specs.Prelude.{ℕ, ◌-◌, cond, List, [], ◌∷◌, length, Ok, Err, Option, Result}
+use Rattle.std.specs.List.{before_first, after_first, onto_first}
 use Rattle.script.specs.declared.command.Command.{Command}
 use Rattle.script.specs.declared.unreadable.Unreadable.{Unreadable}
 use Rattle.script.specs.Runs.{is_comment_sign, is_line_feed}
@@ -27,3 +27,8 @@ first_line bs = before_first is_line_feed bs
 -- what follows the first line feed
 abbrev pub after_line : List ℕ → List ℕ
 after_line bs = after_first is_line_feed bs
+
+-- the lines of a script: a line feed ends a line, and so does the script's end where a byte stands before it
+abbrev pub lines_of : List ℕ → List (List ℕ)
+lines_of [] = []
+lines_of (b ∷ bs) = cond (is_line_feed b) ([] ∷ lines_of bs) (onto_first b (lines_of bs))
