@@ -6,11 +6,11 @@ use Rattle.script.specs.Runs.{from_first}
 
 module _ (p : ℕ → Bool) where
   -- how many bytes stand before the first that passes
-  pub stops_here : (b : ℕ) (bs : List ℕ) → p b ≡ true → position_or_len p (b ∷ bs) ≡ 0
-  stops_here b bs passes = ap (λ v. cond (not v) (1 + position_or_len p bs) 0) passes
+  pub stops_here : (b : ℕ) (bs : List ℕ) → true ≡ p b → position_or_len p (b ∷ bs) ≡ 0
+  stops_here b bs passes = ap (λ v. cond (not v) (1 + position_or_len p bs) 0) (sym passes)
 
-  pub stops_later : (b : ℕ) (bs : List ℕ) → p b ≡ false → position_or_len p (b ∷ bs) ≡ position_or_len p bs + 1
-  stops_later b bs fails = ap (λ v. cond (not v) (1 + position_or_len p bs) 0) fails ∙ omega arith
+  pub stops_later : (b : ℕ) (bs : List ℕ) → false ≡ p b → position_or_len p (b ∷ bs) ≡ position_or_len p bs + 1
+  stops_later b bs fails = ap (λ v. cond (not v) (1 + position_or_len p bs) 0) (sym fails) ∙ omega arith
 
   -- both by the first byte
   pub before_first-cons : (b : ℕ) (bs : List ℕ) → before_first p (b ∷ bs) ≡ cond (p b) [] (b ∷ before_first p bs)

@@ -1,6 +1,12 @@
 -- How a script is cut into lines, a line into its text and a comment, and the text into words. Assumes nothing.
-use Rattle.std.specs.Prelude.{ℕ, Bool, not, ◌||◌, List, drop, ◌==◌}
+use Rattle.std.specs.Prelude.{◌≡◌, ℕ, Bool, not, ◌||◌, List, drop, ◌==◌}
+use Rattle.std.specs.Borrow.{Bor}
+use Rattle.std.specs.Fn.{Shared, FnReturnsAt}
 use Rattle.std.specs.List.{position_or_len}
+
+-- a call of f at a reference to x gives h x
+abbrev pub Computes : {F X R : Type 0} → Shared F (Bor X × Unit {0}) R → (X → R) → F → Type 0
+Computes {X = X} {R = R} g h f = (x : X) (r : R) → FnReturnsAt g f x r → r ≡ h x
 
 -- a blank: a space, a tab or a carriage return
 abbrev pub is_blank : ℕ → Bool

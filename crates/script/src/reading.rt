@@ -1,7 +1,6 @@
 // Reading a line's text. A new command is a variant of `Command` and of `Name`, its word in keywords, and a method here that reads what follows the word.
 ghost use Rattle.std.specs.Prelude.{◌≡◌, ℕ, List, Option};
-ghost use Rattle.std.specs.Fn.{FnOnceReturnsAt};
-ghost use Rattle.script.specs.Runs.{is_no_blank, from_first};
+ghost use Rattle.script.specs.Runs.{Computes, is_no_blank, from_first};
 ghost use Rattle.script.specs.Reading.{leaving, stuck_at, word_at, end_at, meant, whole_at, signed_at, rule_at, face_at};
 ghost use Rattle.script.specs.Commands.{rules_at, enter_at, check_at, body_at, command_at, line_at};
 
@@ -72,9 +71,9 @@ impl<'a> Words<'a> {
     }
 
     // Reads a word that stands for something.
-    fn meant<T, F: FnOnce(&[u8]) -> Option<T>>(&mut self, meaning: F, why: Why) -> Result<T, Stuck>
+    fn meant<T, F: Fn(&[u8]) -> Option<T>>(&mut self, meaning: F, why: Why) -> Result<T, Stuck>
         requires { F.IsAlwaysCallable meaning }
-        ensures { (f : List ℕ → Option T) → ((w : List ℕ) (r : Option T) → FnOnceReturnsAt F.FnOnce meaning w r → r ≡ f w) → leaving result self.new ≡ meant f why self.old }
+        ensures { (f : List ℕ → Option T) → Computes F.Fn f meaning → leaving result self.new ≡ meant f why self.old }
     {
         let word = self.word()?;
         meaning(word.bytes).ok_or(word.stuck(why))

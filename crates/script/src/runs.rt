@@ -1,7 +1,6 @@
 ghost use Rattle.std.specs.Prelude.{◌≡◌, ℕ, Bool};
-ghost use Rattle.std.specs.Fn.{FnReturnsAt};
 ghost use Rattle.std.specs.List.{before_first};
-ghost use Rattle.script.specs.Runs.{is_blank, from_first};
+ghost use Rattle.script.specs.Runs.{Computes, is_blank, from_first};
 
 // Whether a byte stands between words.
 pub fn is_blank(byte: u8) -> bool
@@ -13,8 +12,8 @@ pub fn is_blank(byte: u8) -> bool
 // What stands before the first byte that passes a test, all where none does, and what follows from there on.
 pub fn cut<P: Fn(&u8) -> bool>(bytes: &[u8], stop: P) -> (&[u8], &[u8])
     requires { P.IsAlwaysCallable stop }
-    ensures before { (p : ℕ → Bool) → ((b : ℕ) (r : Bool) → FnReturnsAt P.Fn stop b r → r ≡ p b) → result.0.now ≡ before_first p bytes.now }
-    ensures rest { (p : ℕ → Bool) → ((b : ℕ) (r : Bool) → FnReturnsAt P.Fn stop b r → r ≡ p b) → result.1.now ≡ from_first p bytes.now }
+    ensures before { (p : ℕ → Bool) → Computes P.Fn p stop → result.0.now ≡ before_first p bytes.now }
+    ensures rest { (p : ℕ → Bool) → Computes P.Fn p stop → result.1.now ≡ from_first p bytes.now }
 {
     let end = bytes.iter().position(stop).unwrap_or(bytes.len());
     bytes.split_at(end)

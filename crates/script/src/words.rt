@@ -32,7 +32,8 @@ impl<'a> Model for Word<'a> {
     ghost view = { λ w. record { bytes = w.bytes.now; left = w.left } };
 }
 
-// Where a word cannot be read, or is wanted, by the number of bytes of the text that are left there, and what is wrong.
+// Where a word cannot be read, or is wanted, by the number of bytes of the text that are left there, and what is wrong. It is no `Unreadable`, since
+// a reader that could count from the front would hold the length of the text beside what is left, which is no plainer.
 #[derive(Clone, Copy)]
 pub struct Stuck {
     pub left: usize,
