@@ -2,7 +2,7 @@
 use explained::chosen::Chosen;
 use moments::pair::{Face, Pair};
 use moments::triad::Triad;
-use script::command::Command;
+use script::command::{Command, Rules};
 use script::lines::read_line;
 use script::unreadable::{Unreadable, Why};
 
@@ -11,7 +11,7 @@ fn commands_are_read(rt: HostRuntime) {
     let (bottom, top) = (Chosen::Yield, Chosen::Box);
     assert_eq!(rt;
         read_line(b"rules yield box        # bottom rule, top rule"),
-        Ok(Some(Command::Rules { bottom, top }))
+        Ok(Some(Command::Rules(Rules { bottom, top })))
     );
     let (mx, my, mxy) = (13, -8, 5);
     let triad = Triad { mx, my, mxy };

@@ -1,6 +1,6 @@
 -- A number that is written down is read. Assumes nothing.
-use Rattle.std.proofs.Common.{◌≡◌, ℕ, suc, ◌+◌, ◌-◌, ◌*◌, ◌/◌, ◌%◌, ◌^◌, ◌<◌, ◌≤◌, false, eqb, leb, List, [], ◌∷◌, ◌++◌, get_or, ℤ, pos, negsuc, neg_ℤ, nat_abs, Some, None, decimal, Option, sym, refl, ap, ◌∙◌, arith}
-use Rattle.std.specs.Option.{option_map}
+use Rattle.std.proofs.Common.{◌≡◌, ℕ, suc, ◌+◌, ◌-◌, ◌*◌, ◌/◌, ◌%◌, ◌^◌, ◌<◌, ◌≤◌, false, eqb, leb, List, [], ◌∷◌, ◌++◌, get_or, ℤ, pos, negsuc, neg_ℤ, nat_abs, Some, None, decimal, sym, refl, ap, ◌∙◌, arith}
+use Rattle.std.specs.Option.{option_map, option_and_then}
 use Rattle.std.specs.Char.{is_ascii_digit, IsAsciiDigit}
 use Rattle.std.specs.Fmt.{signed_decimal}
 use Rattle.std.specs.List.{AllByRecursion}
@@ -9,14 +9,14 @@ use Rattle.std.proofs.ByRecursion.{All-get_or, All-weaker}
 use Rattle.std.proofs.lemmas.Str.Parse.{IsDigitsTest, numerals_by_value}
 use Rattle.std.proofs.lemmas.Bool.{cond-true, cond-false, ne_eqb, le-leb}
 use Rattle.std.proofs.lemmas.Bool.Decides.{nat_tests}
-use Rattle.script.specs.Numbers.{largest, with_digit, then_some, read_on, whole_of, signed_of}
+use Rattle.script.specs.Numbers.{largest, with_digit, read_on, whole_of, signed_of}
 use Rattle.script.proofs.Digits.{whole_some}
 use Rattle.script.proofs.Spelling.{Plain, Reads}
 
-read_on-append : (v : ℕ) (bs cs : List ℕ) → read_on v (bs ++ cs) ≡ then_some (read_on v bs) (λ m. read_on m cs)
+read_on-append : (v : ℕ) (bs cs : List ℕ) → read_on v (bs ++ cs) ≡ option_and_then (λ m. read_on m cs) (read_on v bs)
 read_on-append v [] cs = refl
 read_on-append v (b ∷ bs) cs =
-    elim (with_digit v b) as (λ o. then_some o (λ m. read_on m (bs ++ cs)) ≡ then_some (then_some o (λ m. read_on m bs)) (λ m. read_on m cs)) [
+    elim (with_digit v b) as (λ o. option_and_then (λ m. read_on m (bs ++ cs)) o ≡ option_and_then (λ m. read_on m cs) (option_and_then (λ m. read_on m bs) o)) [
       | Some m ↦ read_on-append m bs cs
       | None ↦ refl
     ]
@@ -33,7 +33,7 @@ abbrev Back : ℕ → List ℕ → Type 0
 Back n ds = n ≤ largest → read_on 0 ds ≡ Some n
 
 last_digit : (v d n : ℕ) → d < 10 → v * 10 + d ≡ n → n ≤ largest → read_on v ((48 + d) ∷ []) ≡ Some n
-last_digit v d n digit is small = ap (λ (o : Option ℕ). then_some o (λ m. Some m)) (with_digit_is v d n digit is small)
+last_digit v d n digit is small = ap (option_and_then (λ m. Some m)) (with_digit_is v d n digit is small)
 
 back : (n : ℕ) → n < 2 ^ 64 → Back n (decimal n)
 back =
@@ -41,7 +41,7 @@ back =
     (λ n digit small. last_digit 0 n n digit (omega arith) small)
     (λ n ds more so_far small.
     read_on-append 0 ds ((48 + n % 10) ∷ [])
-    ∙ ap (λ (o : Option ℕ). then_some o (λ m. read_on m ((48 + n % 10) ∷ []))) (so_far (omega arith))
+    ∙ ap (option_and_then (λ m. read_on m ((48 + n % 10) ∷ []))) (so_far (omega arith))
     ∙ last_digit (n / 10) (n % 10) n (omega arith) (omega arith) small)
 
 -- digits are no blanks, and begin no comment

@@ -1,4 +1,5 @@
 pub mod Cutting
+pub mod Splitting
 pub mod Digits
 pub mod Comments
 pub mod Spelling

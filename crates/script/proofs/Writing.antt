@@ -20,11 +20,11 @@ reads_face face.Bottom = reads_keyword (face_word face.Bottom) (lit< tt) refl re
 reads_face face.Top = reads_keyword (face_word face.Top) (lit< tt) refl refl
 
 pub written_is_read : WrittenIsRead
-written_is_read (command.Rules b t) h =
-    let rb = reads_rule b in
-    let rt = reads_rule t in
-    line_read (codes "rules") (rule_word b ∷ rule_word t ∷ []) (reads_keyword (codes "rules") (lit< tt) refl refl) (rb.spelt, (rt.spelt, tt))
-    (step _ (meant_read rb _ (rule_word t ∷ [])) (step _ (meant_read rt _ []) refl))
+written_is_read (command.Rules r) h =
+    let rb = reads_rule r.bottom in
+    let rt = reads_rule r.top in
+    line_read (codes "rules") (rule_word r.bottom ∷ rule_word r.top ∷ []) (reads_keyword (codes "rules") (lit< tt) refl refl) (rb.spelt, (rt.spelt, tt))
+    (step _ (meant_read rb _ (rule_word r.top ∷ [])) (step _ (meant_read rt _ []) refl))
 written_is_read (command.Enter n t) h =
     let rn = reads_whole n h.0 in
     let rx = reads_signed t.mx h.1 in

@@ -1,18 +1,26 @@
 -- The commands of a script. Assumes nothing.
 use Rattle.std.specs.Prelude.{ℕ, cond, List, length, Some, None, Ok, Option, ◌==◌}
+use Rattle.moments.specs.declared.pair.Face.{Face}
+use Rattle.moments.specs.declared.pair.Face.TheVariants.{Bottom, Top}
+use Rattle.explained.specs.declared.chosen.Chosen.{Chosen}
 use Rattle.script.specs.declared.command.Command.{Command}
 use Rattle.script.specs.declared.command.Command.TheVariants as command
+use Rattle.script.specs.declared.command.Rules.{Rules}
 use Rattle.script.specs.declared.keywords.Name.{Name}
 use Rattle.script.specs.declared.keywords.Name.TheVariants as name
 use Rattle.script.specs.declared.unreadable.Why.TheVariants.{UnknownCommand}
-use Rattle.script.specs.declared.runs.Run.TheVariants as run
-use Rattle.script.specs.Runs.{belongs, past}
+use Rattle.script.specs.Runs.{is_no_blank, from_first}
 use Rattle.script.specs.Keywords.{name_of}
 use Rattle.script.specs.Reading.{Read, next, meant, end_at, whole_at, signed_at, rule_at, face_at}
 
+-- the rule of a face
+abbrev pub rule_for : Rules → Face → Chosen
+rule_for r Bottom = r.bottom
+rule_for r Top = r.top
+
 -- rules BOTTOM TOP
 abbrev pub rules_at : List ℕ → Read Command
-rules_at bs = next (rule_at bs) (λ b bs. next (rule_at bs) (λ t bs. Ok (command.Rules b t, bs)))
+rules_at bs = next (rule_at bs) (λ b bs. next (rule_at bs) (λ t bs. Ok (command.Rules (record { bottom = b; top = t }), bs)))
 
 -- enter NUMBER MX MY MXY
 abbrev pub enter_at : List ℕ → Read Command
@@ -42,4 +50,4 @@ line_from bs = cond (length bs == 0) (Ok (None, bs)) (next (command_at bs) (λ c
 
 -- the same from the first word on
 abbrev pub line_at : List ℕ → Read (Option Command)
-line_at bs = line_from (past (belongs run.Gap) bs)
+line_at bs = line_from (from_first is_no_blank bs)

@@ -31,13 +31,13 @@ spaced ws = flat_map (λ w. 32 ∷ w) ws
 
 -- a command's words
 abbrev pub written : Command → List ℕ
-written (command.Rules b t) = codes "rules" ++ spaced (rule_word b ∷ rule_word t ∷ [])
+written (command.Rules r) = codes "rules" ++ spaced (rule_word r.bottom ∷ rule_word r.top ∷ [])
 written (command.Enter n t) = codes "enter" ++ spaced (decimal n ∷ signed_decimal t.mx ∷ signed_decimal t.my ∷ signed_decimal t.mxy ∷ [])
 written (command.Check f p) = codes "check" ++ spaced (face_word f ∷ decimal p.mx ∷ decimal p.my ∷ [])
 
 -- a command whose numbers a script can hold
 abbrev pub Within : Command → Type 0
-Within (command.Rules b t) = Unit {0}
+Within (command.Rules r) = Unit {0}
 Within (command.Enter n t) = (n ≤ largest) × (unsigned_abs t.mx ≤ largest) × (unsigned_abs t.my ≤ largest) × (unsigned_abs t.mxy ≤ largest)
 Within (command.Check f p) = (p.mx ≤ largest) × (p.my ≤ largest)
 

@@ -4,4 +4,5 @@ pub mod Keywords
 pub mod Reading
 pub mod Commands
 pub mod Lines
+pub mod Faults
 pub mod Laws

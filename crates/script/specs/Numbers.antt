@@ -1,6 +1,6 @@
 -- The numbers of a script. Assumes nothing.
 use Rattle.std.specs.Prelude.{ℕ, ◌+◌, ◌-◌, ◌*◌, cond, List, [], ◌∷◌, drop, ℤ, pos, neg_ℤ, Some, None, Option, ◌==◌, nat_le, slice_index}
-use Rattle.std.specs.Option.{option_map}
+use Rattle.std.specs.Option.{option_map, option_and_then}
 use Rattle.std.specs.Char.{is_ascii_digit}
 
 -- the largest whole number of a script
@@ -15,15 +15,10 @@ up_to_largest n = cond (nat_le n largest) (Some n) None
 abbrev pub with_digit : ℕ → ℕ → Option ℕ
 with_digit n b = cond (is_ascii_digit b) (up_to_largest (n * 10 + (b - 48))) None
 
--- what follows from a value, if there is one
-abbrev pub then_some : {X Y : Type 0} → Option X → (X → Option Y) → Option Y
-then_some (Some x) f = f x
-then_some None f = None
-
 -- a number with further digits; none where a byte is no digit or the number passes the largest
 abbrev pub read_on : ℕ → List ℕ → Option ℕ
 read_on n [] = Some n
-read_on n (b ∷ bs) = then_some (with_digit n b) (λ m. read_on m bs)
+read_on n (b ∷ bs) = option_and_then (λ m. read_on m bs) (with_digit n b)
 
 -- a whole number: one or more digits, which zeros may begin
 abbrev pub whole_of : List ℕ → Option ℕ

@@ -1,15 +1,13 @@
 -- Reading a line's text word by word. Assumes nothing.
 use Rattle.std.specs.Prelude.{ℕ, cond, List, length, ℤ, Ok, Err, Option, Result, ◌==◌}
+use Rattle.std.specs.List.{before_first}
 use Rattle.std.specs.Option.{ok_or}
 use Rattle.moments.specs.declared.pair.Face.{Face}
 use Rattle.explained.specs.declared.chosen.Chosen.{Chosen}
 use Rattle.script.specs.declared.words.Stuck.{Stuck}
 use Rattle.script.specs.declared.unreadable.Why.{Why}
 use Rattle.script.specs.declared.unreadable.Why.TheVariants.{MissingWord, NotAWhole, NotASigned, UnknownRule, UnknownFace, TooManyWords}
-use Rattle.script.specs.declared.runs.Run.TheVariants as run
-use Rattle.script.specs.declared.words.Word.{Word}
-use Rattle.script.specs.declared.words.Words.{Words}
-use Rattle.script.specs.Runs.{belongs, front, past}
+use Rattle.script.specs.Runs.{is_blank, is_no_blank, from_first}
 use Rattle.script.specs.Numbers.{whole_of, signed_of}
 use Rattle.script.specs.Keywords.{rule_of, face_of}
 
@@ -17,14 +15,6 @@ use Rattle.script.specs.Keywords.{rule_of, face_of}
 pub record Found : Type 0 where
   pub bytes : List ℕ
   pub left : ℕ
-
--- the same of the code's word
-abbrev pub found : Word → Found
-found w = record { bytes = w.bytes.now; left = w.left }
-
--- what is left of the text
-abbrev pub left_in : Words → List ℕ
-left_in w = w.rest.now
 
 -- what was read and what is left of the text then, or where the reading is stuck
 abbrev pub Read : Type 0 → Type 0
@@ -34,11 +24,6 @@ Read X = Result (X × List ℕ) Stuck
 abbrev pub leaving : {X : Type 0} → Result X Stuck → List ℕ → Read X
 leaving (Ok x) bs = Ok (x, bs)
 leaving (Err s) bs = Err s
-
--- the same for a word
-abbrev pub leaving_word : Result Word Stuck → List ℕ → Read Found
-leaving_word (Ok w) bs = Ok (found w, bs)
-leaving_word (Err s) bs = Err s
 
 -- one reading after another
 abbrev pub next : {X Y : Type 0} → Read X → (X → List ℕ → Read Y) → Read Y
@@ -54,11 +39,11 @@ abbrev pub word_from : List ℕ → Read Found
 word_from bs =
     cond (length bs == 0)
     (Err (record { left = 0; why = MissingWord }))
-    (Ok (record { bytes = front (belongs run.Word) bs; left = length bs }, past (belongs run.Word) bs))
+    (Ok (record { bytes = before_first is_blank bs; left = length bs }, from_first is_blank bs))
 
 -- the next word
 abbrev pub word_at : List ℕ → Read Found
-word_at bs = word_from (past (belongs run.Gap) bs)
+word_at bs = word_from (from_first is_no_blank bs)
 
 -- no further word
 abbrev pub end_from : List ℕ → Read (Unit {0})
@@ -66,7 +51,7 @@ end_from bs = cond (length bs == 0) (Ok (tt, bs)) (Err (record { left = length b
 
 -- the same past blanks
 abbrev pub end_at : List ℕ → Read (Unit {0})
-end_at bs = end_from (past (belongs run.Gap) bs)
+end_at bs = end_from (from_first is_no_blank bs)
 
 -- the next word, where it stands for something
 abbrev pub meant : {X : Type 0} → (List ℕ → Option X) → Why → List ℕ → Read X

@@ -1,6 +1,5 @@
 // The words that a script is written with.
 ghost use Rattle.std.specs.Prelude.{◌≡◌};
-ghost use Rattle.std.specs.Str.{bytes_eq};
 ghost use Rattle.script.specs.Keywords.{name_of, rule_of, face_of};
 
 use explained::chosen::Chosen;
@@ -14,25 +13,15 @@ pub enum Name {
     Check,
 }
 
-// Whether a word is this one.
-fn is(word: &[u8], this: &[u8]) -> bool
-    ensures { result ≡ bytes_eq word.now this.now }
-{
-    word == this
-}
-
 // The command that a word names.
 pub fn name_of(word: &[u8]) -> Option<Name>
     ensures { result ≡ name_of word.now }
 {
-    if is(word, b"rules") {
-        Some(Name::Rules)
-    } else if is(word, b"enter") {
-        Some(Name::Enter)
-    } else if is(word, b"check") {
-        Some(Name::Check)
-    } else {
-        None
+    match word {
+        b"rules" => Some(Name::Rules),
+        b"enter" => Some(Name::Enter),
+        b"check" => Some(Name::Check),
+        _ => None,
     }
 }
 
@@ -40,12 +29,10 @@ pub fn name_of(word: &[u8]) -> Option<Name>
 pub fn rule_of(word: &[u8]) -> Option<Chosen>
     ensures { result ≡ rule_of word.now }
 {
-    if is(word, b"yield") {
-        Some(Chosen::Yield)
-    } else if is(word, b"box") {
-        Some(Chosen::Box)
-    } else {
-        None
+    match word {
+        b"yield" => Some(Chosen::Yield),
+        b"box" => Some(Chosen::Box),
+        _ => None,
     }
 }
 
@@ -53,11 +40,9 @@ pub fn rule_of(word: &[u8]) -> Option<Chosen>
 pub fn face_of(word: &[u8]) -> Option<Face>
     ensures { result ≡ face_of word.now }
 {
-    if is(word, b"bottom") {
-        Some(Face::Bottom)
-    } else if is(word, b"top") {
-        Some(Face::Top)
-    } else {
-        None
+    match word {
+        b"bottom" => Some(Face::Bottom),
+        b"top" => Some(Face::Top),
+        _ => None,
     }
 }

@@ -9,15 +9,9 @@ fn with_digit(value: u32, byte: u8) -> Option<u32>
     ensures value { result ≡ with_digit value byte }
     ensures within { IfSome result (λ n. n ≤ largest) }
 {
-    if !byte.is_ascii_digit() {
-        return None;
-    }
-    let grown = value as u64 * 10 + (byte - b'0') as u64;
-    if grown <= LARGEST_NUMBER as u64 {
-        Some(grown as u32)
-    } else {
-        None
-    }
+    let digit = char::from(byte).to_digit(10)?;
+    let grown = value.checked_mul(10)?.checked_add(digit)?;
+    (grown <= LARGEST_NUMBER).then_some(grown)
 }
 
 // The whole number that the bytes stand for.
@@ -28,11 +22,9 @@ pub fn whole_of(bytes: &[u8]) -> Option<u32>
     if bytes.is_empty() {
         return None;
     }
-    let mut value = 0;
-    for byte in bytes {
-        value = with_digit(value, *byte)?;
-    }
-    Some(value)
+    bytes
+        .iter()
+        .try_fold(0, |value, byte| with_digit(value, *byte))
 }
 
 // The signed number that the bytes stand for.

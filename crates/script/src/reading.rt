@@ -1,14 +1,13 @@
 // Reading a line's text. A new command is a variant of `Command` and of `Name`, its word in keywords, and a method here that reads what follows the word.
-ghost use Rattle.std.specs.Prelude.{◌≡◌};
-ghost use Rattle.script.specs.Runs.{belongs, past};
-ghost use Rattle.script.specs.declared.runs.Run.TheVariants as run;
-ghost use Rattle.script.specs.Reading.{left_in, leaving, leaving_word, stuck_at, found, word_at, end_at, whole_at, signed_at, rule_at, face_at};
+ghost use Rattle.std.specs.Prelude.{◌≡◌, ℕ, List, Option};
+ghost use Rattle.script.specs.Runs.{Computes, is_no_blank, from_first};
+ghost use Rattle.script.specs.Reading.{leaving, stuck_at, word_at, end_at, meant, whole_at, signed_at, rule_at, face_at};
 ghost use Rattle.script.specs.Commands.{rules_at, enter_at, check_at, body_at, command_at, line_at};
 
-use crate::command::Command;
+use crate::command::{Command, Rules};
 use crate::keywords::{Name, face_of, name_of, rule_of};
 use crate::numbers::{signed_of, whole_of};
-use crate::runs::Run;
+use crate::runs::{cut, is_blank};
 use crate::unreadable::Why;
 use crate::words::{Stuck, Word, Words};
 use explained::chosen::Chosen;
@@ -18,7 +17,7 @@ use moments::triad::Triad;
 impl Word<'_> {
     // The word as one that cannot be read.
     fn stuck(&self, why: Why) -> Stuck
-        ensures { result ≡ stuck_at (found self.now) why }
+        ensures { result ≡ stuck_at self.now why }
     {
         Stuck {
             left: self.left,
@@ -30,15 +29,15 @@ impl Word<'_> {
 impl<'a> Words<'a> {
     // Moves to the next word, or to the end of the text.
     fn skip_blanks(&mut self)
-        ensures { left_in self.new ≡ past (belongs run.Gap) (left_in self.old) }
+        ensures { self.new ≡ from_first is_no_blank self.old }
     {
-        let (_, rest) = Run::Gap.cut(self.rest);
+        let (_, rest) = cut(self.rest, |b| !is_blank(*b));
         self.rest = rest;
     }
 
     // Reads a word.
     fn word(&mut self) -> Result<Word<'a>, Stuck>
-        ensures { leaving_word result (left_in self.new) ≡ word_at (left_in self.old) }
+        ensures { leaving result self.new ≡ word_at self.old }
     {
         self.skip_blanks();
         let text = self.rest;
@@ -48,7 +47,7 @@ impl<'a> Words<'a> {
                 why: Why::MissingWord,
             });
         }
-        let (bytes, rest) = Run::Word.cut(text);
+        let (bytes, rest) = cut(text, |b| is_blank(*b));
         self.rest = rest;
         Ok(Word {
             bytes,
@@ -58,7 +57,7 @@ impl<'a> Words<'a> {
 
     // Sees that no word is left.
     fn end(&mut self) -> Result<(), Stuck>
-        ensures { leaving result (left_in self.new) ≡ end_at (left_in self.old) }
+        ensures { leaving result self.new ≡ end_at self.old }
     {
         self.skip_blanks();
         if self.rest.is_empty() {
@@ -71,50 +70,55 @@ impl<'a> Words<'a> {
         }
     }
 
-    // Reads a whole number.
-    fn whole(&mut self) -> Result<u32, Stuck>
-        ensures { leaving result (left_in self.new) ≡ whole_at (left_in self.old) }
+    // Reads a word that stands for something.
+    fn meant<T, F: Fn(&[u8]) -> Option<T>>(&mut self, meaning: F, why: Why) -> Result<T, Stuck>
+        requires { F.IsAlwaysCallable meaning }
+        ensures { (f : List ℕ → Option T) → Computes F.Fn f meaning → leaving result self.new ≡ meant f why self.old }
     {
         let word = self.word()?;
-        whole_of(word.bytes).ok_or(word.stuck(Why::NotAWhole))
+        meaning(word.bytes).ok_or(word.stuck(why))
+    }
+
+    // Reads a whole number.
+    fn whole(&mut self) -> Result<u32, Stuck>
+        ensures { leaving result self.new ≡ whole_at self.old }
+    {
+        self.meant(whole_of, Why::NotAWhole)
     }
 
     // Reads a signed number.
     fn signed(&mut self) -> Result<i32, Stuck>
-        ensures { leaving result (left_in self.new) ≡ signed_at (left_in self.old) }
+        ensures { leaving result self.new ≡ signed_at self.old }
     {
-        let word = self.word()?;
-        signed_of(word.bytes).ok_or(word.stuck(Why::NotASigned))
+        self.meant(signed_of, Why::NotASigned)
     }
 
     // Reads the name of a yield rule.
     fn rule(&mut self) -> Result<Chosen, Stuck>
-        ensures { leaving result (left_in self.new) ≡ rule_at (left_in self.old) }
+        ensures { leaving result self.new ≡ rule_at self.old }
     {
-        let word = self.word()?;
-        rule_of(word.bytes).ok_or(word.stuck(Why::UnknownRule))
+        self.meant(rule_of, Why::UnknownRule)
     }
 
     // Reads the name of a face.
     fn face(&mut self) -> Result<Face, Stuck>
-        ensures { leaving result (left_in self.new) ≡ face_at (left_in self.old) }
+        ensures { leaving result self.new ≡ face_at self.old }
     {
-        let word = self.word()?;
-        face_of(word.bytes).ok_or(word.stuck(Why::UnknownFace))
+        self.meant(face_of, Why::UnknownFace)
     }
 
     // Reads what follows `rules`.
     fn rules(&mut self) -> Result<Command, Stuck>
-        ensures { leaving result (left_in self.new) ≡ rules_at (left_in self.old) }
+        ensures { leaving result self.new ≡ rules_at self.old }
     {
         let bottom = self.rule()?;
         let top = self.rule()?;
-        Ok(Command::Rules { bottom, top })
+        Ok(Command::Rules(Rules { bottom, top }))
     }
 
     // Reads what follows `enter`.
     fn enter(&mut self) -> Result<Command, Stuck>
-        ensures { leaving result (left_in self.new) ≡ enter_at (left_in self.old) }
+        ensures { leaving result self.new ≡ enter_at self.old }
     {
         let number = self.whole()?;
         let mx = self.signed()?;
@@ -128,7 +132,7 @@ impl<'a> Words<'a> {
 
     // Reads what follows `check`.
     fn check(&mut self) -> Result<Command, Stuck>
-        ensures { leaving result (left_in self.new) ≡ check_at (left_in self.old) }
+        ensures { leaving result self.new ≡ check_at self.old }
     {
         let face = self.face()?;
         let mx = self.whole()?;
@@ -141,7 +145,7 @@ impl<'a> Words<'a> {
 
     // Reads what follows a command's name.
     fn body(&mut self, name: Name) -> Result<Command, Stuck>
-        ensures { leaving result (left_in self.new) ≡ body_at name (left_in self.old) }
+        ensures { leaving result self.new ≡ body_at name self.old }
     {
         match name {
             Name::Rules => self.rules(),
@@ -152,10 +156,9 @@ impl<'a> Words<'a> {
 
     // Reads a command, after which no word may be left.
     fn command(&mut self) -> Result<Command, Stuck>
-        ensures { leaving result (left_in self.new) ≡ command_at (left_in self.old) }
+        ensures { leaving result self.new ≡ command_at self.old }
     {
-        let word = self.word()?;
-        let name = name_of(word.bytes).ok_or(word.stuck(Why::UnknownCommand))?;
+        let name = self.meant(name_of, Why::UnknownCommand)?;
         let command = self.body(name)?;
         self.end()?;
         Ok(command)
@@ -163,7 +166,7 @@ impl<'a> Words<'a> {
 
     // Reads the text of a line: a command, or no word.
     pub fn line(&mut self) -> Result<Option<Command>, Stuck>
-        ensures { leaving result (left_in self.new) ≡ line_at (left_in self.old) }
+        ensures { leaving result self.new ≡ line_at self.old }
     {
         self.skip_blanks();
         if self.rest.is_empty() {

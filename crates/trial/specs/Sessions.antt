@@ -68,7 +68,7 @@ pub record Answered (m : Meaning) (cs : List Case) (f : Face) (p : Pair) (r : Re
 
 -- what a command replies, and what the session holds before and after
 abbrev pub Done : Held → Command → Reply → Held → Type 0
-Done h (command.Rules b t) r k = (r ≡ reply.Ruled b t) × (k ≡ with_rules b t h)
+Done h (command.Rules w) r k = (r ≡ reply.Ruled w.bottom w.top) × (k ≡ with_rules w.bottom w.top h)
 Done h (command.Enter n t) r k = (o : Result (Unit {0}) Trouble) × (r ≡ reply.Entered n t o) × EnteredInto h n t o k
 Done h (command.Check f p) r k = Answered (face_meaning h f) h.cases f p r × (k ≡ h)
 

@@ -14,7 +14,7 @@ use moments::pair::{Face, Pair};
 use moments::refusal::Refusal;
 use moments::triad::Triad;
 use moments::turned::Turned;
-use script::command::Command;
+use script::command::{Command, Rules};
 use script::lines::read_line;
 use std::alloc::Global;
 
@@ -96,7 +96,7 @@ impl Session {
         ensures { Done (held self.old) command result (held self.new) }
     {
         match command {
-            Command::Rules { bottom, top } => {
+            Command::Rules(Rules { bottom, top }) => {
                 self.set_rules(bottom, top);
                 Reply::Ruled { bottom, top }
             }

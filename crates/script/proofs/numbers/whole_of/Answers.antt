@@ -1,33 +1,11 @@
-use Rattle.std.proofs.Common.{sym, ◌∙◌, arith, rules}
-use Rattle.std.proofs.lemmas.List.{at_drop_all}
+use Rattle.std.proofs.Common.{sym, ◌∙◌, ap, arith, rules}
 use Rattle.std.proofs.lemmas.Bool.{eqb-false}
 use Rattle.script.specs.Numbers.{read_on}
-use Rattle.script.proofs.Digits.{whole_some, read_on_more}
+use Rattle.script.proofs.Digits.{whole_some, read_by_calls, read_within}
 use Rattle.script.proofs.numbers.whole_of.Goals as goal
-
-pub returns-in_err-value : goal.returns-in_err-value
-returns-in_err-value c =
-    rw c.from_residual.ensures
-    (record {
-      value =
-          read_on_more c.args.bytes.now c.loop-byte.byte-index c.loop-byte.value _ (omega arith) c.in_err-value.ensures.value
-          ∙ c.loop-byte.invariant.0
-          ∙ whole_some c.args.bytes.now (eqb-false _ _ (sym c.if-is_empty.ensures));
-      within = tt;
-    })
-
-pub loop-byte-preserved : goal.loop-byte-preserved
-loop-byte-preserved c = (
-  read_on_more c.args.bytes.now c.loop-byte.byte-index c.loop-byte.value _ (omega arith) c.in_ok-value.ensures.value ∙ c.loop-byte.invariant.0,
-  search rules,
-)
 
 pub returns : goal.returns
 returns c =
-    record {
-      value =
-          sym (at_drop_all (read_on c.loop-byte.value) c.args.bytes.now c.loop-byte.byte-index (omega arith))
-          ∙ c.loop-byte.invariant.0
-          ∙ whole_some c.args.bytes.now (eqb-false _ _ (sym c.if-is_empty.ensures));
-      within = c.loop-byte.invariant.1;
-    }
+    let ran = c.try_fold.ensures.ran in
+    let read = read_by_calls _ _ (λ f n x v h k. search rules) ran.0 _ ran.4.0 _ _ _ _ ran.1 ran.4.1 ran.4.2 ran.5 ran.6 ∙ ap (read_on 0) c.iter.ensures.rest in
+    rw read (record { value = whole_some c.args.bytes.now (eqb-false _ _ (sym c.if-is_empty.ensures)); within = read_within c.args.bytes.now 0 (omega arith) })

@@ -1,7 +1,0 @@
-use Rattle.std.proofs.Common.{◌≡◌, ◌+◌, drop}
-use Rattle.std.specs.List.{prefix_len}
-use Rattle.script.specs.Runs.{belongs}
-use Rattle.script.proofs.runs.Run.length.Given as goal
-
-abbrev pub invariant-loop-i : goal.invariant-loop-i
-invariant-loop-i l = l.i + prefix_len (belongs l.self) (drop l.i l.bytes) ≡ prefix_len (belongs l.self) l.bytes
