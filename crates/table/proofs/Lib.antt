@@ -1,5 +1,4 @@
 pub mod Counted
-pub mod Left
 pub mod Orders
 pub mod Shifts
 pub mod Lowest

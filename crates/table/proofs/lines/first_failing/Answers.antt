@@ -1,27 +1,27 @@
-use Rattle.std.proofs.Common.{◌≡◌, ℕ, Bool, true, List, Option, sym, ◌∙◌, subst}
+use Rattle.std.proofs.Common.{◌≡◌, ℕ, ◌<◌, Bool, true, false, List, length, get_or, drop, Some, None, Option, sym, ◌∙◌, subst, arith}
+use Rattle.std.proofs.lemmas.Bool.{cond-false}
+use Rattle.std.proofs.lemmas.Grind.{common_steps}
+use Rattle.std.proofs.lemmas.List.{at_drop_more}
 use Rattle.table.specs.declared.line.Line.{Line}
-use Rattle.table.specs.Failing.{first_failing, passed_by, FirstToFail}
+use Rattle.table.specs.Failing.{first_failing, passed_by, FirstToFail, LowestFailing}
 use Rattle.table.specs.Lines.{climbing}
-use Rattle.table.proofs.Left.{failing_here, failing_next, failing_end}
 use Rattle.table.proofs.Lowest.{first_to_fail}
 use Rattle.table.proofs.lines.first_failing.Goals as goal
 
--- the first that fails is the lowest that fails
-lowest : (test : Line → Bool) (ls : List Line) (o : Option ℕ) → climbing ls ≡ true → o ≡ first_failing test ls
-    → record { value : o ≡ first_failing test ls; lowest : FirstToFail test ls o }
-lowest test ls o c e = record { value = e; lowest = subst (λ (r : Option ℕ). FirstToFail test ls r) (sym e) (first_to_fail test ls c) }
+module _ (test : Line → Bool) (ls : List Line) (rising : climbing ls ≡ true) where
+  -- the first that fails is the lowest that fails
+  lowest : (o : Option ℕ) → o ≡ first_failing test ls → FirstToFail test ls o
+  lowest o e = subst (λ (r : Option ℕ). FirstToFail test ls r) (sym e) (first_to_fail test ls rising)
 
-pub returns-then-not-passes : goal.returns-then-not-passes
-returns-then-not-passes g c =
-    let test = passed_by (g.R.YieldRule.meaning c.args.rule.now) c.args.pair in
-    lowest test _ _ c.requires (sym (failing_here test _ _ _ c.loop-line-test.true (sym c.passes.ensures ∙ c.if-not-passes.true)) ∙ c.loop-line.invariant)
+  -- so it is the line at hand where that fails and all before it pass
+  lowest_at : (i : ℕ) (d : Line) → i < length ls → test (get_or ls i d) ≡ false → first_failing test (drop i ls) ≡ first_failing test ls → LowestFailing test ls (get_or ls i d).number
+  lowest_at i d h fails left = lowest (Some (get_or ls i d).number) (sym (at_drop_more (first_failing test) ls i d h ∙ cond-false _ _ _ fails) ∙ left)
 
-pub loop-line-preserved : goal.loop-line-preserved
-loop-line-preserved g c =
-    let test = passed_by (g.R.YieldRule.meaning c.args.rule.now) c.args.pair in
-    sym (failing_next test _ _ _ c.loop-line-test.true (sym c.passes.ensures ∙ c.if-not-passes.false)) ∙ c.loop-line.invariant
+pub returns-then-not-passes-clause-lowest : goal.returns-then-not-passes-clause-lowest
+returns-then-not-passes-clause-lowest g c =
+    lowest_at (passed_by (g.R.YieldRule.meaning c.args.rule.now) c.args.pair) c.args.lines.now c.requires _ _ c.loop-line-test.true
+    (sym c.if-not-passes.ensures) c.loop-line.invariant
 
-pub returns : goal.returns
-returns g c =
-    let test = passed_by (g.R.YieldRule.meaning c.args.rule.now) c.args.pair in
-    lowest test _ _ c.requires (sym (failing_end test _ _ c.loop-line-test.false) ∙ c.loop-line.invariant)
+pub returns-clause-lowest : goal.returns-clause-lowest
+returns-clause-lowest g c =
+    lowest (passed_by (g.R.YieldRule.meaning c.args.rule.now) c.args.pair) c.args.lines.now c.requires None (grind (arith, common_steps))

@@ -29,20 +29,6 @@ module _ (t : Table) (k : Line) (at : ℕ) (due : enter_due k.number k.triad (st
       ap (λ xs. take (t.count + 1) (set xs at k)) p ∙ take-opened t.lines at t.count k room.before room.more
       ∙ sym (entered_inserted k (standing t) at fits)
 
-pub copy_within-requires : goal.copy_within-requires
-copy_within-requires c =
-    let r = room c.args.self.now c.args.line c.args.at c.requires.free c.requires.fits in
-    let b = r.before in
-    let m = r.more in
-    record { start_le_end = b; in_bounds = omega arith; dest_in_bounds = omega arith; not_exhausted = tt }
-
-pub bounds-self-at : goal.bounds-self-at
-bounds-self-at c =
-    let r = room c.args.self.now c.args.line c.args.at c.requires.free c.requires.fits in
-    let b = r.before in
-    let m = r.more in
-    omega arith
-
 pub invariant_of-self : goal.invariant_of-self
 invariant_of-self c =
     let t = c.args.self.now in

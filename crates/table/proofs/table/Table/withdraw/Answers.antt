@@ -1,8 +1,6 @@
-use Rattle.std.proofs.Common.{◌≡◌, List, Some, None, sym, ap, ◌∙◌, subst, arith}
+use Rattle.std.proofs.Common.{List, Some, sym, ap, ◌∙◌, subst, arith}
 use Rattle.std.proofs.lemmas.List.{get_or-take}
-use Rattle.std.proofs.lemmas.Bool.{true≢false}
 use Rattle.table.specs.declared.line.Line.{Line}
-use Rattle.table.specs.Changes.{withdraw_due}
 use Rattle.table.specs.Laws.{OneLess}
 use Rattle.table.specs.Standing.{standing}
 use Rattle.table.proofs.Counted.{length-standing}
@@ -11,18 +9,22 @@ use Rattle.table.proofs.Looked.{one_less}
 use Rattle.table.proofs.Places.{leaves}
 use Rattle.table.proofs.table.Table.withdraw.Goals as goal
 
-pub returns : goal.returns
-returns c =
+pub returns-clause-answer : goal.returns-clause-answer
+returns-clause-answer c =
+    let t = c.args.self.now in
+    (leaves c.args.number (standing t) c.in-Ok.at t.rising c.in-Ok.ensures.found).moments _
+    ∙ ap (λ (l : Line). Some l.triad) (get_or-take t.count t.lines c.in-Ok.at _ (let w = c.in-Ok.ensures.found.within in let l = length-standing t in omega arith))
+
+pub returns-clause-lines : goal.returns-clause-lines
+returns-clause-lines c =
     let t = c.args.self.now in
     let n = c.args.number in
-    let ls = standing t in
-    let f = leaves n ls c.in-Ok.at t.rising c.in-Ok.ensures.found in
-    let due : withdraw_due n ls ≡ None = withdraw_goes n ls (sym c.if-not-is_case_number.ensures) f.there in
-    let e = c.remove.ensures ∙ sym f.gone in
-    record {
-      refusal = sym due;
-      answer = f.moments _ ∙ ap (λ (l : Line). Some l.triad) (get_or-take t.count t.lines c.in-Ok.at _ (let w = c.in-Ok.ensures.found.within in let l = length-standing t in omega arith));
-      lines = e ∙ goes_through _ ls _ due;
-      law = subst (λ (xs : List Line). OneLess n ls xs) (sym e) (one_less n ls);
-      unchanged = λ h. absurd (true≢false h);
-    }
+    let f = leaves n (standing t) c.in-Ok.at t.rising c.in-Ok.ensures.found in
+    c.remove.ensures ∙ sym f.gone ∙ goes_through _ (standing t) _ (withdraw_goes n (standing t) (sym c.if-not-is_case_number.ensures) f.there)
+
+pub returns-clause-law : goal.returns-clause-law
+returns-clause-law c =
+    let t = c.args.self.now in
+    let n = c.args.number in
+    let f = leaves n (standing t) c.in-Ok.at t.rising c.in-Ok.ensures.found in
+    subst (λ (xs : List Line). OneLess n (standing t) xs) (sym (c.remove.ensures ∙ sym f.gone)) (one_less n (standing t))
