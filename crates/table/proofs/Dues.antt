@@ -1,8 +1,10 @@
 -- Which refusal is due, from the tests in their order. Assumes nothing.
-use Rattle.std.proofs.Common.{◌≡◌, ℕ, ◌<◌, Bool, true, false, cond, not, List, length, is_some, Some, None, Option, sym, refl, ap, ◌∙◌, arith}
+use Rattle.std.proofs.Common.{◌≡◌, ℕ, ◌<◌, Bool, true, false, cond, not, List, [], ◌∷◌, ◌++◌, length, is_some, Some, None, Option, sym, refl, ap, ◌∙◌, arith}
 use Rattle.std.proofs.lemmas.Bool.{and_from, not-false, not_from_true, leb-false, cond-false}
 use Rattle.moments.specs.Limits.{most_lines}
+use Rattle.moments.specs.Refusals.{number_of, first_refusal, first_due}
 use Rattle.moments.specs.Triads.{in_limits}
+use Rattle.moments.specs.declared.refusal.Refusal.{Refusal}
 use Rattle.moments.specs.declared.triad.Triad.{Triad}
 use Rattle.table.specs.declared.line.Line.{Line}
 use Rattle.table.specs.Lines.{is_number, line_of, sound, stands}
@@ -12,6 +14,18 @@ use Rattle.table.specs.Changes.{enter_due, withdraw_due}
 pub not_due : (b : Bool) (n : ℕ) (o : Option ℕ) → cond b (Some n) o ≡ None → (b ≡ false) × (o ≡ None)
 not_due true n o h = let z : ◌≡◌ {A = ℕ} 0 1 = cc in absurd (omega arith)
 not_due false n o h = (refl, h)
+
+-- a refusal due by the first rows is due whatever rows follow
+pub due_first : (rows more : List (Bool × Refusal)) (e : Refusal) → first_refusal rows ≡ Some e → Some (number_of e) ≡ first_due (rows ++ more)
+due_first [] more e h = let z : ◌≡◌ {A = ℕ} 0 1 = cc in absurd (omega arith)
+due_first ((true , r) ∷ rows) more e h = cc
+due_first ((false , r) ∷ rows) more e h = due_first rows more e h
+
+-- where those rows have none due, the rows that follow tell
+pub due_later : (rows more : List (Bool × Refusal)) → first_refusal rows ≡ None → first_due more ≡ first_due (rows ++ more)
+due_later [] more h = refl
+due_later ((true , r) ∷ rows) more h = let z : ◌≡◌ {A = ℕ} 0 1 = cc in absurd (omega arith)
+due_later ((false , r) ∷ rows) more h = due_later rows more h
 
 -- what holds where a line may be entered
 pub record Free (n : ℕ) (t : Triad) (ls : List Line) : Type 0 where

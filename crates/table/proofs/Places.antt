@@ -9,7 +9,7 @@ use Rattle.std.proofs.lemmas.Bool.{lt-ltb, le-ltb, eq-eqb, ne_eqb, and_parts, or
 use Rattle.std.proofs.lemmas.Bool.Decides.{nat_tests}
 use Rattle.table.specs.declared.line.Line.{Line}
 use Rattle.table.specs.Lines.{leads, climbing, stands, triad_under, entered, withdrawn}
-use Rattle.table.specs.Places.{StandsAt, FitsAt}
+use Rattle.table.specs.Places.{StandsAt, FitsAt, Placed}
 use Rattle.table.proofs.Lowest.{all_above}
 
 -- the numbers of lines that rise don't fall
@@ -98,7 +98,7 @@ module _ (ls : List Line) (rising : climbing ls ≡ true) (n : ℕ) where
 
   -- a binary search by number ends at the line of the number, or where one would fit
   pub searched : (r : Result ℕ ℕ) → IsSearchInRange r (length ls) → IsBinarySearchResult (λ l. nat_cmp l.number n) ls r
-      → record { found : IfOk r (StandsAt n ls); absent : IfErr r (FitsAt n ls); stands : is_ok r ≡ stands n ls }
+      → Placed n ls r
   searched (Ok at) within equal =
       let s : StandsAt n ls at = record { within = within; numbered = λ d. ranked _ n _ (sym (equal d)) } in
       record { found = s; absent = tt; stands = sym (leaves n ls at rising s).there }

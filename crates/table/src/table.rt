@@ -7,7 +7,6 @@ use moments::limits::MOST_LINES;
 
 mod changing;
 mod checking;
-mod finding;
 mod making;
 
 // The load cases that stand: the first `count` places hold them, in strictly rising order of their numbers, and the others are free.

@@ -8,7 +8,7 @@ ghost use Rattle.table.specs.Laws.{Stands, OneMore, OneLess};
 ghost use Rattle.table.specs.Standing.{standing};
 
 use crate::line::Line;
-use crate::lines::is_case_number;
+use crate::lines::{self, is_case_number, place};
 use crate::table::Table;
 use moments::limits::MOST_LINES;
 use moments::refusal::Refusal;
@@ -38,7 +38,7 @@ impl Table {
         if !is_case_number(number) {
             return Err(Refusal::CaseNumber);
         }
-        let Ok(at) = self.find(number) else {
+        let Ok(at) = place(self.standing(), number) else {
             return Err(Refusal::NotStanding);
         };
         let triad = self.lines[at].triad;
@@ -51,15 +51,7 @@ impl Table {
         ensures refusal { refused_by result ≡ enter_due number triad (standing self.now) }
         ensures place { IfOk result (FitsAt number (standing self.now)) }
     {
-        if !is_case_number(number) {
-            return Err(Refusal::CaseNumber);
-        }
-        if !triad.in_limits() {
-            return Err(Refusal::Moment);
-        }
-        let Err(at) = self.find(number) else {
-            return Err(Refusal::Standing);
-        };
+        let at = lines::admit(self.standing(), number, triad)?;
         if self.count >= MOST_LINES {
             return Err(Refusal::Full);
         }

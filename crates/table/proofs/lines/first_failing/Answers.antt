@@ -18,10 +18,10 @@ module _ (test : Line → Bool) (ls : List Line) (rising : climbing ls ≡ true)
   lowest_at i d h fails left = lowest (Some (get_or ls i d).number) (sym (at_drop_more (first_failing test) ls i d h ∙ cond-false _ _ _ fails) ∙ left)
 
 pub returns-then-not-passes-clause-lowest : goal.returns-then-not-passes-clause-lowest
-returns-then-not-passes-clause-lowest g c =
-    lowest_at (passed_by (g.R.YieldRule.meaning c.args.rule.now) c.args.pair) c.args.lines.now c.requires _ _ c.loop-line-test.true
+returns-then-not-passes-clause-lowest g c rising =
+    lowest_at (passed_by (g.R.YieldRule.meaning c.args.rule.now) c.args.pair) c.args.lines.now rising _ _ c.loop-line-test.true
     (sym c.if-not-passes.ensures) c.loop-line.invariant
 
 pub returns-clause-lowest : goal.returns-clause-lowest
-returns-clause-lowest g c =
-    lowest (passed_by (g.R.YieldRule.meaning c.args.rule.now) c.args.pair) c.args.lines.now c.requires None (grind (arith, common_steps))
+returns-clause-lowest g c rising =
+    lowest (passed_by (g.R.YieldRule.meaning c.args.rule.now) c.args.pair) c.args.lines.now rising None (grind (arith, common_steps))
