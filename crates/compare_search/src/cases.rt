@@ -1,36 +1,31 @@
-// Random load cases, held twice: on a table, and in plain slots in the order of entering.
+// Random load cases, held twice: on a table, and in a list in the order of entering.
 use moments::limits::LAST_CASE;
 use samples::Random;
+use std::alloc::{AllocError, Global};
 use table::line::Line;
 use table::table::Table;
 
 // How many cases are entered at most.
-pub const SLOTS: usize = 8;
+const MOST_CASES: u32 = 8;
 
-// The same cases stand on the table and in the slots.
-#[derive(Clone, Copy)]
+// The same cases stand on the table and in the list.
+#[derive(Drop)]
 pub struct Cases {
     pub table: Table,
-    pub slots: [Option<Line>; SLOTS],
+    pub lines: Vec<Line>,
 }
 
 // Some cases entered, and some of them withdrawn again.
-pub fn random_cases(random: &mut Random, most: u32) -> Cases {
+pub fn random_cases(alloc: Global, random: &mut Random, most: u32) -> Result<Cases, AllocError> {
     let mut table = Table::new();
-    let mut slots = [None; SLOTS];
-    for slot in slots.iter_mut() {
+    let mut lines = Vec::new(alloc);
+    for _ in 0..MOST_CASES {
         let number = random.up_to(LAST_CASE - 1) + 1;
         let triad = random.triad(most);
         if random.up_to(3) > 0 && table.enter(number, triad).is_ok() {
-            *slot = Some(Line { number, triad });
+            lines.push(Line { number, triad })?;
         }
     }
-    for slot in slots.iter_mut() {
-        if let Some(line) = *slot {
-            if random.up_to(4) == 0 && table.withdraw(line.number).is_ok() {
-                *slot = None;
-            }
-        }
-    }
-    Cases { table, slots }
+    lines.retain(|line| random.up_to(4) > 0 || table.withdraw(line.number).is_err());
+    Ok(Cases { table, lines })
 }
