@@ -1,17 +1,14 @@
 ghost use Rattle.std.proofs.Common.{rules};
 
-use moments::pair::Pair;
+use moments::pair::{Direction, Pair};
 use moments::rule::{DirectRule, YieldRule};
 use moments::triad::Triad;
 use std::cell::Cell;
 
 // What is told of each question for a least partner.
 pub trait Listener {
-    // A least my is asked for.
-    fn column(&self);
-
-    // A least mx is asked for.
-    fn row(&self);
+    // The least moment in a direction is asked for.
+    fn asked(&self, direction: Direction);
 }
 
 // A rule that tells a listener of each question for a least partner, and answers as the rule that it is made of.
@@ -37,12 +34,12 @@ impl<R: YieldRule, L: Listener> YieldRule for Heard<R, L> {
 
 impl<R: DirectRule, L: Listener> DirectRule for Heard<R, L> {
     fn least_my(&self, triad: Triad, mx: u32) -> Option<u32> {
-        self.listener.column();
+        self.listener.asked(Direction::Y);
         self.rule.least_my(triad, mx)
     }
 
     fn least_mx(&self, triad: Triad, my: u32) -> Option<u32> {
-        self.listener.row();
+        self.listener.asked(Direction::X);
         self.rule.least_mx(triad, my)
     }
 }
@@ -62,23 +59,44 @@ impl Count {
         }
     }
 
-    // How often a least my was asked for.
-    pub fn columns(&self) -> u64 {
-        self.columns.get()
-    }
-
-    // How often a least mx was asked for.
-    pub fn rows(&self) -> u64 {
-        self.rows.get()
+    // The questions so far.
+    pub fn questions(&self) -> Questions {
+        Questions {
+            columns: self.columns.get(),
+            rows: self.rows.get(),
+        }
     }
 }
 
 impl Listener for Count {
-    fn column(&self) {
-        self.columns.set(self.columns.get().saturating_add(1));
+    // A least my is found in a column, a least mx in a row.
+    fn asked(&self, direction: Direction) {
+        let count = match direction {
+            Direction::X => &self.rows,
+            Direction::Y => &self.columns,
+        };
+        count.set(count.get().saturating_add(1));
+    }
+}
+
+// How often a least my was asked for, in a column, and a least mx, in a row.
+#[derive(Clone, Copy, Default)]
+pub struct Questions {
+    pub columns: u64,
+    pub rows: u64,
+}
+
+impl Questions {
+    // Questions of both kinds.
+    pub fn all(self) -> u64 {
+        self.columns.saturating_add(self.rows)
     }
 
-    fn row(&self) {
-        self.rows.set(self.rows.get().saturating_add(1));
+    // These questions and others together.
+    pub fn plus(self, others: Questions) -> Questions {
+        Questions {
+            columns: self.columns.saturating_add(others.columns),
+            rows: self.rows.saturating_add(others.rows),
+        }
     }
 }

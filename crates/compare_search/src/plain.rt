@@ -15,16 +15,14 @@ pub struct Question<'a, F> {
     pub floor: Pair,
 }
 
+// Each method asks that the test may be called, since a ghost field can't speak of a closure's bound.
 impl<'a, F: Fn(Triad, Pair) -> bool> Question<'a, F> {
     // The first safe pair in rising order of sum, then mx.
     pub fn best(&self) -> Option<Pair>
         requires { F.IsAlwaysCallable self.now.passes }
     {
         (0..=LARGEST_SUM)
-            .flat_map(|sum| (0..=sum).map(move |mx| Pair {
-                mx,
-                my: sum.saturating_sub(mx),
-            }))
+            .flat_map(|sum| (0..=sum).map(move |mx| Pair { mx, my: sum - mx }))
             .find(|pair| self.safe(*pair))
     }
 
@@ -41,13 +39,14 @@ impl<'a, F: Fn(Triad, Pair) -> bool> Question<'a, F> {
         self.lowest_failing(lower).map(Stop::Case)
     }
 
+    // Whether a pair keeps the floors and every case passes it.
     fn safe(&self, pair: Pair) -> bool
         requires { F.IsAlwaysCallable self.now.passes }
     {
         self.floor.mx <= pair.mx && self.floor.my <= pair.my && self.lowest_failing(pair).is_none()
     }
 
-    // The lines are in the order of entering, so every one is looked at.
+    // The lowest number of a case that fails; the lines are in the order of entering, so every one is looked at.
     fn lowest_failing(&self, pair: Pair) -> Option<u32>
         requires { F.IsAlwaysCallable self.now.passes }
     {
