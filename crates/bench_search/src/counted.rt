@@ -44,41 +44,6 @@ impl<R: DirectRule, L: Listener> DirectRule for Heard<R, L> {
     }
 }
 
-// Counts the questions.
-#[derive(Drop)]
-pub struct Count {
-    columns: Cell<u64>,
-    rows: Cell<u64>,
-}
-
-impl Count {
-    pub fn new() -> Count {
-        Count {
-            columns: Cell::new(0),
-            rows: Cell::new(0),
-        }
-    }
-
-    // The questions so far.
-    pub fn questions(&self) -> Questions {
-        Questions {
-            columns: self.columns.get(),
-            rows: self.rows.get(),
-        }
-    }
-}
-
-impl Listener for Count {
-    // A least my is found in a column, a least mx in a row.
-    fn asked(&self, direction: Direction) {
-        let count = match direction {
-            Direction::X => &self.rows,
-            Direction::Y => &self.columns,
-        };
-        count.set(count.get().saturating_add(1));
-    }
-}
-
 // How often a least my was asked for, in a column, and a least mx, in a row.
 #[derive(Clone, Copy, Default)]
 pub struct Questions {
@@ -98,5 +63,18 @@ impl Questions {
             columns: self.columns.saturating_add(others.columns),
             rows: self.rows.saturating_add(others.rows),
         }
+    }
+}
+
+// A cell counts the questions that it is told of.
+impl Listener for Cell<Questions> {
+    fn asked(&self, direction: Direction) {
+        let mut questions = self.get();
+        let count = match direction {
+            Direction::X => &mut questions.rows,
+            Direction::Y => &mut questions.columns,
+        };
+        *count = count.saturating_add(1);
+        self.set(questions);
     }
 }

@@ -5,13 +5,14 @@
 mod counted;
 mod scan;
 
-use counted::{Count, Heard, Questions};
+use counted::{Heard, Questions};
 use moments::limits::{LAST_CASE, MOST_LINES};
 use moments::pair::Pair;
 use rules::yield_rule::Yield;
 use samples::Random;
 use scan::scan;
 use search::best::best_pair;
+use std::cell::Cell;
 use std::time::{Duration, Instant};
 use std::{env, io};
 use table::table::Table;
@@ -65,10 +66,10 @@ fn measure(rt: HostRuntime, most: u32) -> io::Result<()> {
 fn questions(table: &Table) -> Questions {
     let rule = Heard {
         rule: Yield,
-        listener: Count::new(),
+        listener: Cell::new(Questions::default()),
     };
     let _ = best_pair(&rule, table.standing(), FLOOR);
-    rule.listener.questions()
+    rule.listener.get()
 }
 
 // Questions to single cases, as a mean over the tables of questions to all cases.
@@ -83,24 +84,23 @@ fn compare(rt: HostRuntime, most: u32) -> io::Result<()> {
     let mut same = 0u32;
     for _ in 0..TABLES {
         let table = full_table(&mut random, most);
-        let (found, took) = timed(rt, || best_pair(&Yield, table.standing(), FLOOR))?;
+        let (found, took) = clocked(rt, || best_pair(&Yield, table.standing(), FLOOR))?;
         fast = fast.saturating_add(took);
-        let (scanned, took) = timed(rt, || scan(&Yield, table.standing(), FLOOR))?;
+        let (scanned, took) = clocked(rt, || scan(&Yield, table.standing(), FLOOR))?;
         slow = slow.saturating_add(took);
         if found == scanned {
             same = same.saturating_add(1);
         }
     }
-    let ratio = slow.as_micros() / fast.as_micros().max(1);
-    let fast = fast.as_micros();
-    let slow = slow.as_micros();
+    let (fast, slow) = (fast.as_micros(), slow.as_micros());
+    let ratio = slow / fast.max(1);
     println!(rt;
         "  {ratio} times faster than the plain scan ({fast} against {slow} microseconds), {same} answers the same"
     )
 }
 
 // What a step answers, and how long it takes.
-fn timed<F: FnOnce() -> Option<Pair>>(
+fn clocked<F: FnOnce() -> Option<Pair>>(
     rt: HostRuntime,
     step: F,
 ) -> io::Result<(Option<Pair>, Duration)>
