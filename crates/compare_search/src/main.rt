@@ -29,19 +29,11 @@ fn main(rt: HostRuntime) -> io::Result<()> {
         "The search against a plain one: pairs in rising order of sum, then mx, until one is safe"
     )?;
     show(rt, "yield", &Yield, meets_yield)?;
-    show(
-        rt,
-        "yield turned over",
-        &Turned { rule: Yield },
-        |triad, pair| { meets_yield(seen_from_top(triad), pair) },
-    )?;
+    let on_top = |triad, pair| meets_yield(seen_from_top(triad), pair);
+    show(rt, "yield turned over", &Turned { rule: Yield }, on_top)?;
     show(rt, "box", &BoxRule, meets_box)?;
-    show(
-        rt,
-        "box turned over",
-        &Turned { rule: BoxRule },
-        |triad, pair| { meets_box(seen_from_top(triad), pair) },
-    )
+    let on_top = |triad, pair| meets_box(seen_from_top(triad), pair);
+    show(rt, "box turned over", &Turned { rule: BoxRule }, on_top)
 }
 
 // Tries one rule against its criterion, and prints on how many tables the two agree.

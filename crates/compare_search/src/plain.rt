@@ -15,7 +15,7 @@ pub struct Question<'a, F> {
     pub floor: Pair,
 }
 
-// Each method asks that the test may be called, since a ghost field can't speak of a closure's bound.
+// Each method asks that the test may be called: a ghost field can't cite the bound `Fn`.
 impl<'a, F: Fn(Triad, Pair) -> bool> Question<'a, F> {
     // The first safe pair in rising order of sum, then mx.
     pub fn best(&self) -> Option<Pair>
