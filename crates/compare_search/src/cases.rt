@@ -1,31 +1,36 @@
-// Random load cases, held twice: on a table, and in a list in the order of entering.
+// Random load cases, held twice: on a table, and in plain slots in the order of entering.
 use moments::limits::LAST_CASE;
 use samples::Random;
-use std::alloc::{AllocError, Global};
 use table::line::Line;
 use table::table::Table;
 
 // How many cases are entered at most.
-const MOST_CASES: u32 = 8;
+pub const SLOTS: usize = 8;
 
-// The same cases stand on the table and in the list.
-#[derive(Drop)]
+// The same cases stand on the table and in the slots; both are of a fixed size, so that no case is left out for want of memory.
+#[derive(Clone, Copy)]
 pub struct Cases {
     pub table: Table,
-    pub lines: Vec<Line>,
+    pub slots: [Option<Line>; SLOTS],
 }
 
 // Some cases entered, and some of them withdrawn again.
-pub fn random_cases(alloc: Global, random: &mut Random, most: u32) -> Result<Cases, AllocError> {
+pub fn random_cases(random: &mut Random, most: u32) -> Cases {
     let mut table = Table::new();
-    let mut lines = Vec::new(alloc);
-    for _ in 0..MOST_CASES {
+    let mut slots = [None; SLOTS];
+    for slot in slots.iter_mut() {
         let number = random.up_to(LAST_CASE - 1) + 1;
         let triad = random.triad(most);
         if random.up_to(3) > 0 && table.enter(number, triad).is_ok() {
-            lines.push(Line { number, triad })?;
+            *slot = Some(Line { number, triad });
         }
     }
-    lines.retain(|line| random.up_to(4) > 0 || table.withdraw(line.number).is_err());
-    Ok(Cases { table, lines })
+    for slot in slots.iter_mut() {
+        if let Some(line) = *slot {
+            if random.up_to(4) == 0 && table.withdraw(line.number).is_ok() {
+                *slot = None;
+            }
+        }
+    }
+    Cases { table, slots }
 }

@@ -49,10 +49,10 @@ fn show<R: DirectRule, F: Fn(Triad, Pair) -> bool>(
     let mut agreed = 0u32;
     let mut lines = 0u32;
     for _ in 0..TABLES {
-        let cases = random_cases(rt.alloc(), &mut random, MOST)?;
+        let cases = random_cases(&mut random, MOST);
         let question = Question {
             passes: &passes,
-            lines: cases.lines.as_slice(),
+            slots: cases.slots.as_slice(),
             floor: random_floor(&mut random),
         };
         lines = lines.saturating_add(cases.table.standing().len() as u32);

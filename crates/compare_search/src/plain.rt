@@ -11,7 +11,7 @@ const LARGEST_SUM: u32 = 60;
 #[derive(Drop)]
 pub struct Question<'a, F> {
     pub passes: F,
-    pub lines: &'a [Line],
+    pub slots: &'a [Option<Line>],
     pub floor: Pair,
 }
 
@@ -46,13 +46,14 @@ impl<'a, F: Fn(Triad, Pair) -> bool> Question<'a, F> {
         self.floor.mx <= pair.mx && self.floor.my <= pair.my && self.lowest_failing(pair).is_none()
     }
 
-    // The lowest number of a case that fails; the lines are in the order of entering, so every one is looked at.
+    // The lowest number of a case that fails; the slots are in the order of entering, so every one is looked at.
     fn lowest_failing(&self, pair: Pair) -> Option<u32>
         requires { F.IsAlwaysCallable self.now.passes }
     {
         let passes = &self.passes;
-        self.lines
+        self.slots
             .iter()
+            .flatten()
             .filter(|line| !passes(line.triad, pair))
             .map(|line| line.number)
             .min()
