@@ -7,11 +7,8 @@ use std::cell::Cell;
 
 // What is told of each question for a least partner.
 pub trait Listener {
-    // A least my is asked for.
-    fn column(&self);
-
-    // A least mx is asked for.
-    fn row(&self);
+    // The least moment in a direction is asked for.
+    fn asked(&self, direction: Direction);
 }
 
 // A rule that tells a listener of each question for a least partner, and answers as the rule that it is made of.
@@ -37,46 +34,42 @@ impl<R: YieldRule, L: Listener> YieldRule for Heard<R, L> {
 
 impl<R: DirectRule, L: Listener> DirectRule for Heard<R, L> {
     fn least_partner(&self, triad: Triad, direction: Direction, partner: u32) -> Option<u32> {
-        match direction {
-            Direction::X => self.listener.row(),
-            Direction::Y => self.listener.column(),
-        }
+        self.listener.asked(direction);
         self.rule.least_partner(triad, direction, partner)
     }
 }
 
-// Counts the questions.
-#[derive(Drop)]
-pub struct Count {
-    columns: Cell<u64>,
-    rows: Cell<u64>,
+// How often a least my was asked for, in a column, and a least mx, in a row.
+#[derive(Clone, Copy, Default)]
+pub struct Questions {
+    pub columns: u64,
+    pub rows: u64,
 }
 
-impl Count {
-    pub fn new() -> Count {
-        Count {
-            columns: Cell::new(0),
-            rows: Cell::new(0),
+impl Questions {
+    // Questions of both kinds.
+    pub fn all(self) -> u64 {
+        self.columns.saturating_add(self.rows)
+    }
+
+    // These questions and others together.
+    pub fn plus(self, others: Questions) -> Questions {
+        Questions {
+            columns: self.columns.saturating_add(others.columns),
+            rows: self.rows.saturating_add(others.rows),
         }
     }
-
-    // How often a least my was asked for.
-    pub fn columns(&self) -> u64 {
-        self.columns.get()
-    }
-
-    // How often a least mx was asked for.
-    pub fn rows(&self) -> u64 {
-        self.rows.get()
-    }
 }
 
-impl Listener for Count {
-    fn column(&self) {
-        self.columns.set(self.columns.get().saturating_add(1));
-    }
-
-    fn row(&self) {
-        self.rows.set(self.rows.get().saturating_add(1));
+// A cell counts the questions that it is told of.
+impl Listener for Cell<Questions> {
+    fn asked(&self, direction: Direction) {
+        let mut questions = self.get();
+        let count = match direction {
+            Direction::X => &mut questions.rows,
+            Direction::Y => &mut questions.columns,
+        };
+        *count = count.saturating_add(1);
+        self.set(questions);
     }
 }

@@ -5,13 +5,14 @@
 mod counted;
 mod scan;
 
-use counted::{Count, Heard};
+use counted::{Heard, Questions};
 use moments::limits::{LAST_CASE, MOST_LINES};
 use moments::pair::Pair;
 use rules::yield_rule::Yield;
 use samples::Random;
 use scan::scan;
 use search::best::best_pair;
+use std::cell::Cell;
 use std::time::{Duration, Instant};
 use std::{env, io};
 use table::table::Table;
@@ -38,35 +39,37 @@ fn main(rt: HostRuntime) -> io::Result<()> {
 
 // Whether the first word after the program's name is `time`.
 fn wants_time(rt: HostRuntime) -> io::Result<bool> {
-    match env::args(&rt)?.nth(1) {
-        Some(word) => Ok(word.as_str() == "time"),
-        None => Ok(false),
-    }
+    let word = env::args(&rt)?.nth(1);
+    Ok(word.is_some_and(|word| word.as_str() == "time"))
 }
 
 // How often all load cases of a table are asked for a column or a row.
 fn measure(rt: HostRuntime, most: u32) -> io::Result<()> {
     let mut random = Random::new(most as u64);
-    let (mut columns, mut rows, mut worst) = (0u64, 0u64, 0u64);
+    let mut total = Questions::default();
+    let mut worst = 0u64;
     for _ in 0..TABLES {
-        let table = full_table(&mut random, most);
-        let rule = Heard {
-            rule: Yield,
-            listener: Count::new(),
-        };
-        let _ = best_pair(&rule, table.standing(), FLOOR);
-        let (c, r) = (rule.listener.columns(), rule.listener.rows());
-        columns = columns.saturating_add(c);
-        rows = rows.saturating_add(r);
-        worst = worst.max(c.saturating_add(r));
+        let asked = questions(&full_table(&mut random, most));
+        total = total.plus(asked);
+        worst = worst.max(asked.all());
     }
-    let columns = mean(columns);
-    let rows = mean(rows);
+    let columns = mean(total.columns);
+    let rows = mean(total.rows);
     let asked = columns.saturating_add(rows);
     let worst = worst / MOST_LINES as u64;
     println!(rt;
         "moments up to {most}: the cases are asked {asked} times on average ({columns} columns, {rows} rows), {worst} at most"
     )
+}
+
+// The questions to single cases in the search on one table.
+fn questions(table: &Table) -> Questions {
+    let rule = Heard {
+        rule: Yield,
+        listener: Cell::new(Questions::default()),
+    };
+    let _ = best_pair(&rule, table.standing(), FLOOR);
+    rule.listener.get()
 }
 
 // Questions to single cases, as a mean over the tables of questions to all cases.
@@ -77,26 +80,35 @@ fn mean(questions: u64) -> u64 {
 // The search against the plain scan on the same tables.
 fn compare(rt: HostRuntime, most: u32) -> io::Result<()> {
     let mut random = Random::new(most as u64);
-    let (mut fast, mut slow) = (Duration::new(0, 0), Duration::new(0, 0));
+    let (mut fast, mut slow) = (Duration::default(), Duration::default());
     let mut same = 0u32;
     for _ in 0..TABLES {
         let table = full_table(&mut random, most);
-        let start = Instant::now(&rt)?;
-        let found = best_pair(&Yield, table.standing(), FLOOR);
-        fast = fast.saturating_add(start.elapsed(&rt)?);
-        let start = Instant::now(&rt)?;
-        let scanned = scan(&Yield, table.standing(), FLOOR);
-        slow = slow.saturating_add(start.elapsed(&rt)?);
+        let (found, took) = clocked(rt, || best_pair(&Yield, table.standing(), FLOOR))?;
+        fast = fast.saturating_add(took);
+        let (scanned, took) = clocked(rt, || scan(&Yield, table.standing(), FLOOR))?;
+        slow = slow.saturating_add(took);
         if found == scanned {
             same = same.saturating_add(1);
         }
     }
-    let ratio = slow.as_micros() / fast.as_micros().max(1);
-    let fast = fast.as_micros();
-    let slow = slow.as_micros();
+    let (fast, slow) = (fast.as_micros(), slow.as_micros());
+    let ratio = slow / fast.max(1);
     println!(rt;
         "  {ratio} times faster than the plain scan ({fast} against {slow} microseconds), {same} answers the same"
     )
+}
+
+// What a step answers, and how long it takes.
+fn clocked<F: FnOnce() -> Option<Pair>>(
+    rt: HostRuntime,
+    step: F,
+) -> io::Result<(Option<Pair>, Duration)>
+    requires { F.IsAlwaysCallable step }
+{
+    let start = Instant::now(&rt)?;
+    let answer = step();
+    Ok((answer, start.elapsed(&rt)?))
 }
 
 // A table on which as many load cases stand as can.

@@ -4,24 +4,15 @@ use table::line::Line;
 
 // The best pair by a plain scan: in every column from the floor to the ceiling the least my that all lines pass.
 pub fn scan<R: DirectRule>(rule: &R, lines: &[Line], floor: Pair) -> Option<Pair> {
-    let mut best = None;
-    let mut least = u64::MAX;
-    for mx in floor.mx..=rule.ceiling() {
-        if let Some(my) = least_my(rule, lines, floor, mx) {
-            let sum = mx as u64 + my as u64;
-            if sum < least {
-                least = sum;
-                best = Some(Pair { mx, my });
-            }
-        }
-    }
-    best
+    (floor.mx..=rule.ceiling())
+        .filter_map(|mx| least_my(rule, lines, floor, mx).map(|my| Pair { mx, my }))
+        .min_by_key(|pair| pair.mx as u64 + pair.my as u64)
 }
 
+// The least my of a column that all lines pass, at or above the floor.
 fn least_my<R: DirectRule>(rule: &R, lines: &[Line], floor: Pair, mx: u32) -> Option<u32> {
-    let mut my = floor.my;
-    for line in lines {
-        my = my.max(rule.least_my(line.triad, mx)?);
-    }
-    Some(my)
+    lines.iter().try_fold(
+        floor.my,
+        |my, line| Some(my.max(rule.least_my(line.triad, mx)?)),
+    )
 }

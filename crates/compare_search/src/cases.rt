@@ -7,7 +7,7 @@ use table::table::Table;
 // How many cases are entered at most.
 pub const SLOTS: usize = 8;
 
-// The same cases stand on the table and in the slots.
+// The same cases stand on the table and in the slots; both are of a fixed size, so that no case is left out for want of memory.
 #[derive(Clone, Copy)]
 pub struct Cases {
     pub table: Table,
