@@ -8,12 +8,19 @@ use Rattle.moments.specs.declared.refusal.Refusal.{Refusal}
 use Rattle.moments.specs.declared.triad.Triad.{Triad}
 use Rattle.table.specs.declared.line.Line.{Line}
 use Rattle.table.specs.Lines.{is_number, line_of, sound, stands}
-use Rattle.table.specs.Changes.{enter_due, withdraw_due}
+use Rattle.table.specs.Changes.{line_due, enter_due, withdraw_due}
 
 -- where no row is due, its test fails and no later row is due
-pub not_due : (b : Bool) (n : ℕ) (o : Option ℕ) → cond b (Some n) o ≡ None → (b ≡ false) × (o ≡ None)
-not_due true n o h = let z : ◌≡◌ {A = ℕ} 0 1 = cc in absurd (omega arith)
-not_due false n o h = (refl, h)
+not_due : {A : Type 0} (b : Bool) (a : A) (o : Option A) → cond b (Some a) o ≡ None → (b ≡ false) × (o ≡ None)
+not_due true a o h = let z : ◌≡◌ {A = ℕ} 0 1 = cc in absurd (omega arith)
+not_due false a o h = (refl, h)
+
+-- a line that is not refused is within its limits
+pub line_fits : (n : ℕ) (t : Triad) (ls : List Line) → line_due n t ls ≡ None → sound (line_of n t) ≡ true
+line_fits n t ls due =
+    let p = not_due (not (is_number n)) _ _ due in
+    let q = not_due (not (in_limits t)) _ _ p.1 in
+    and_from _ _ (not-false _ p.0) (not-false _ q.0)
 
 -- a refusal due by the first rows is due whatever rows follow
 pub due_first : (rows more : List (Bool × Refusal)) (e : Refusal) → first_refusal rows ≡ Some e → Some (number_of e) ≡ first_due (rows ++ more)

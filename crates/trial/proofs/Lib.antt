@@ -1,4 +1,0 @@
-pub mod Left
-pub mod Orders
-pub mod Entered
-pub mod Lowest

@@ -1,4 +1,4 @@
-pub mod Lists
+pub mod Troubles
 pub mod Entering
 pub mod Checking
 pub mod Trials

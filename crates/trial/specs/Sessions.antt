@@ -8,67 +8,51 @@ use Rattle.moments.specs.declared.pair.Face.TheVariants.{Bottom, Top}
 use Rattle.moments.specs.declared.pair.Pair.{Pair}
 use Rattle.moments.specs.declared.triad.Triad.{Triad}
 use Rattle.explained.specs.Inequalities.{chosen_meaning, chosen_sides}
-use Rattle.explained.specs.declared.chosen.Chosen.{Chosen}
 use Rattle.explained.specs.declared.chosen.Chosen.TheVariants as chosen
 use Rattle.explained.specs.declared.sides.Sides.{Sides}
+use Rattle.script.specs.declared.command.Rules.{Rules}
 use Rattle.script.specs.declared.command.Command.{Command}
 use Rattle.script.specs.declared.command.Command.TheVariants as command
 use Rattle.script.specs.declared.unreadable.Unreadable.{Unreadable}
+use Rattle.table.specs.declared.line.Line.{Line}
 use Rattle.trial.specs.Checking.{checked, LowestNamed}
-use Rattle.trial.specs.Entering.{list_of, Entering}
-use Rattle.trial.specs.declared.case.Case.{Case}
+use Rattle.trial.specs.Entering.{Entering}
 use Rattle.trial.specs.declared.reply.Reply.{Reply}
 use Rattle.trial.specs.declared.reply.Reply.TheVariants as reply
-use Rattle.trial.specs.declared.session.Session.{Session}
 use Rattle.trial.specs.declared.trouble.Trouble.{Trouble}
 
 -- the rule chosen for each face, and the cases in rising order of their numbers
 pub record Held : Type 0 where
-  pub bottom : Chosen
-  pub top : Chosen
-  pub cases : List Case
-
--- the same of a session
-abbrev pub held : Session → Held
-held s = record { bottom = s.bottom; top = s.top; cases = list_of s.cases }
+  pub rules : Rules
+  pub cases : List Line
 
 -- the yield rule on both faces, and no case
 abbrev pub start : Held
-start = record { bottom = chosen.Yield; top = chosen.Yield; cases = [] }
-
--- other rules, the same cases
-abbrev pub with_rules : Chosen → Chosen → Held → Held
-with_rules b t h = record { bottom = b; top = t; cases = h.cases }
-
--- the rule chosen for a face
-abbrev pub rule_of : Held → Face → Chosen
-rule_of h Bottom = h.bottom
-rule_of h Top = h.top
+start = record { rules = record { bottom = chosen.Yield; top = chosen.Yield }; cases = [] }
 
 -- what the rule of a face means: a top face takes its rule turned over
 abbrev pub face_meaning : Held → Face → Meaning
-face_meaning h Bottom = chosen_meaning h.bottom
-face_meaning h Top = turned_over (chosen_meaning h.top)
+face_meaning h Bottom = chosen_meaning h.rules.bottom
+face_meaning h Top = turned_over (chosen_meaning h.rules.top)
 
 -- and its inequalities
 abbrev pub face_sides : Held → Face → Triad → ℕ → ℕ → Sides
-face_sides h Bottom t = chosen_sides h.bottom t
-face_sides h Top t = chosen_sides h.top (negated_triad t)
+face_sides h Bottom t = chosen_sides h.rules.bottom t
+face_sides h Top t = chosen_sides h.rules.top (negated_triad t)
 
 -- a case is entered or not, and the rules stay
 pub record EnteredInto (h : Held) (n : ℕ) (t : Triad) (r : Result (Unit {0}) Trouble) (k : Held) : Type 0 where
   pub entering : Entering n t h.cases r k.cases
-  pub bottom_stays : k.bottom ≡ h.bottom
-  pub top_stays : k.top ≡ h.top
+  pub rules_stay : k.rules ≡ h.rules
 
 -- a check replies by the face's rule, and the case that it names is the lowest that fails
-pub record Answered (m : Meaning) (cs : List Case) (f : Face) (p : Pair) (r : Reply) : Type 0 where
+pub record Answered (m : Meaning) (cs : List Line) (f : Face) (p : Pair) (r : Reply) : Type 0 where
   pub value : r ≡ reply.Checked f p (checked m p cs)
   pub lowest : LowestNamed m p cs (checked m p cs)
 
 -- what a command replies, and what the session holds before and after
 abbrev pub Done : Held → Command → Reply → Held → Type 0
-Done h (command.Rules w) r k = (r ≡ reply.Ruled w.bottom w.top) × (k ≡ with_rules w.bottom w.top h)
+Done h (command.Rules w) r k = (r ≡ reply.Ruled w) × (k ≡ record { rules = w; cases = h.cases })
 Done h (command.Enter n t) r k = (o : Result (Unit {0}) Trouble) × (r ≡ reply.Entered n t o) × EnteredInto h n t o k
 Done h (command.Check f p) r k = Answered (face_meaning h f) h.cases f p r × (k ≡ h)
 

@@ -1,7 +1,6 @@
 // Trial pairs against load cases: what the `account` program decides.
 #![tactic(auto)]
 
-pub mod case;
 mod cases;
 pub mod reply;
 pub mod session;

@@ -1,8 +1,8 @@
 use crate::trouble::Trouble;
-use explained::chosen::Chosen;
 use moments::pair::{Face, Pair};
 use moments::refusal::Refusal;
 use moments::triad::Triad;
+use script::command::Rules;
 use script::unreadable::Unreadable;
 
 // What came of one line of a script.
@@ -13,10 +13,7 @@ pub enum Reply {
     // it can't be read
     Unreadable(Unreadable),
     // the rules are chosen
-    Ruled {
-        bottom: Chosen,
-        top: Chosen,
-    },
+    Ruled(Rules),
     // a load case was entered, or why not
     Entered {
         number: u32,

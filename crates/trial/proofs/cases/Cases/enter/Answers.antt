@@ -1,26 +1,39 @@
-use Rattle.std.proofs.Common.{◌≡◌, ℕ, is_ok, None, sym, ap, ◌∙◌}
+use Rattle.std.proofs.Common.{◌≡◌, ℕ, true, List, Ok, sym, ap, ◌∙◌, subst}
 use Rattle.std.specs.List.{insert}
-use Rattle.trial.specs.Entering.{list_of, case_of, enter_due}
-use Rattle.trial.specs.Lists.{rank}
-use Rattle.trial.proofs.Entered.{stays_in_order}
-use Rattle.trial.proofs.Orders.{entered_inserted}
+use Rattle.moments.specs.declared.triad.Triad.{Triad}
+use Rattle.table.specs.Changes.{Admits}
+use Rattle.table.specs.Lines.{climbing, all_sound, line_of, entered}
+use Rattle.table.specs.declared.line.Line.{Line}
+use Rattle.table.proofs.Dues.{line_fits}
+use Rattle.table.proofs.Orders.{climbing-entered, sound-entered}
+use Rattle.table.proofs.Places.{entered_inserted, fits_absent}
+use Rattle.trial.specs.Entering.{InOrder}
 use Rattle.trial.proofs.cases.Cases.enter.Goals as goal
 
-pub invariant_of-self : goal.invariant_of-self
-invariant_of-self c =
-    let n = c.args.number in
-    let t = c.args.triad in
-    let cs = list_of c.args.self.now in
-    let due : enter_due n t cs ≡ None = sym (ap (enter_due n t) c.as_slice.ensures.value) ∙ sym c.in_default.ensures in
-    let at : c.rank_of-at.result ≡ rank n cs = c.rank_of-at.ensures.value ∙ ap (rank n) c.as_slice-2.ensures.value in
-    let p = stays_in_order n t cs due _ _ (is_ok c.insert.result) c.args.self.now.rising c.args.self.now.ranged at c.insert.ensures.items in
-    record { rising = p.0; ranged = p.1 }
+-- a case that is admitted goes to its place, and the order and the ranges stay
+module _ (n : ℕ) (t : Triad) (cs : List Line) (at : ℕ) (order : InOrder cs) (admitted : Admits n t cs (Ok at)) where
+  in_place : insert cs at (line_of n t) ≡ entered (line_of n t) cs
+  in_place = sym (entered_inserted (line_of n t) cs at admitted.1)
+
+  in_order : InOrder (insert cs at (line_of n t))
+  in_order =
+      record {
+        rising = ap climbing in_place ∙ climbing-entered (line_of n t) cs order.rising (fits_absent n cs at admitted.1);
+        ranged = ap all_sound in_place ∙ sound-entered (line_of n t) cs (line_fits n t cs admitted.0) order.ranged;
+      }
+
+-- what was admitted to the slice is admitted to the list
+admitted_to : (n : ℕ) (t : Triad) (at : ℕ) (xs cs : List Line) → xs ≡ cs → InOrder cs → (climbing xs ≡ true → Admits n t xs (Ok at)) → Admits n t cs (Ok at)
+admitted_to n t at xs cs e order a = subst (λ (ls : List Line). Admits n t ls (Ok at)) e (a (ap climbing e ∙ order.rising))
+
+pub invariant_of-self-2 : goal.invariant_of-self-2
+invariant_of-self-2 c =
+    let cs = c.self.inside.list.items in
+    let a = admitted_to c.args.number c.args.triad c.in_ok-at.at _ cs c.as_slice.ensures.value c.self.invariant c.in_ok-at.ensures in
+    rw c.in_ok-insert.ensures.items (in_order c.args.number c.args.triad cs c.in_ok-at.at c.self.invariant a)
 
 pub returns : goal.returns
 returns c =
-    let n = c.args.number in
-    let t = c.args.triad in
-    let cs = list_of c.args.self.now in
-    let due : enter_due n t cs ≡ None = sym (ap (enter_due n t) c.as_slice.ensures.value) ∙ sym c.in_default.ensures in
-    let at : c.rank_of-at.result ≡ rank n cs = c.rank_of-at.ensures.value ∙ ap (rank n) c.as_slice-2.ensures.value in
-    (due, c.in_ok-insert.ensures.items ∙ ap (λ (i : ℕ). insert cs i (case_of n t)) at ∙ sym (entered_inserted (case_of n t) cs))
+    let cs = c.self.inside.list.items in
+    let a = admitted_to c.args.number c.args.triad c.in_ok-at.at _ cs c.as_slice.ensures.value c.self.invariant c.in_ok-at.ensures in
+    rw (← c.self.view_is) (a.0, c.in_ok-insert.ensures.items ∙ in_place c.args.number c.args.triad cs c.in_ok-at.at c.self.invariant a)
