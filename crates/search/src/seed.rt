@@ -19,13 +19,6 @@ impl<R: DirectRule> Question<'_, R> {
         self.lowest(mx).map(|pair| pair.mx as u64 + pair.my as u64)
     }
 
-    // Whether a column has a smaller least sum than another: one without a safe pair has the largest of all.
-    fn is_closer(&self, mx: u32, other: u32) -> bool {
-        self.column_sum(mx).is_some_and(|sum| self
-            .column_sum(other)
-            .is_none_or(|larger| sum < larger))
-    }
-
     // A column whose least sum is close to the least of all, for most rules: the sums fall and then rise along the columns,
     // so a third of the columns can be given up in each turn. Any column would do for the search, only more slowly.
     fn near_column(&self) -> u32 {
@@ -35,7 +28,7 @@ impl<R: DirectRule> Question<'_, R> {
             let third = (high - low) / 3;
             let left = low + third;
             let right = high - third;
-            if self.is_closer(left, right) {
+            if is_smaller(self.column_sum(left), self.column_sum(right)) {
                 high = right - 1;
             } else {
                 low = left + 1;
@@ -49,9 +42,15 @@ impl<R: DirectRule> Question<'_, R> {
         ensures { SomeOfThem (SafeFor R.YieldRule.meaning self.now) result }
     {
         let near = self.near_column();
+        // a match, as a closure for `or_else` would need the contract of `lowest` written out once more
         match self.lowest(near) {
             None => self.lowest(self.rule.ceiling()),
             found => found,
         }
     }
+}
+
+// Whether a sum is smaller than another, where none is larger than any.
+fn is_smaller(sum: Option<u64>, other: Option<u64>) -> bool {
+    sum.is_some_and(|sum| other.is_none_or(|other| sum < other))
 }
