@@ -18,16 +18,16 @@ pub enum Trouble {
 impl From<Refusal> for Trouble {
     ghost from_gives = { λ e r. r ≡ Refused e };
 
-    fn from(refusal: Refusal) -> Trouble {
-        Trouble::Refused(refusal)
+    fn from(refusal: Refusal) -> Self {
+        Self::Refused(refusal)
     }
 }
 
 impl<V: Drop> From<AllocFailed<V>> for Trouble {
     ghost from_gives = { λ _ r. r ≡ NoMemory };
 
-    fn from(_refused: AllocFailed<V>) -> Trouble {
-        Trouble::NoMemory
+    fn from(_refused: AllocFailed<V>) -> Self {
+        Self::NoMemory
     }
 }
 
