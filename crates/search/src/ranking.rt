@@ -1,4 +1,5 @@
 ghost use Rattle.std.specs.Prelude.{◌≡◌, Bool};
+ghost use Rattle.moments.specs.Pairs.{sum};
 ghost use Rattle.moments.specs.declared.pair.Pair.{Pair};
 ghost use Rattle.search.specs.Rankings.{Ranks, least_mx};
 ghost use Rattle.std.proofs.Common.{rules};
@@ -26,8 +27,13 @@ impl Ranking for LeastMx {
     ghost ranks = { Prim.search rules };
 
     fn prefers(&self, one: Pair, other: Pair) -> bool {
-        let sum = one.mx as u64 + one.my as u64;
-        let other_sum = other.mx as u64 + other.my as u64;
-        (sum, one.mx) < (other_sum, other.mx)
+        (sum_of(one), one.mx) < (sum_of(other), other.mx)
     }
+}
+
+// The sum of both moments.
+pub(crate) fn sum_of(pair: Pair) -> u64
+    ensures { result ≡ sum pair }
+{
+    pair.mx as u64 + pair.my as u64
 }

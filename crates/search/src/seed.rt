@@ -2,6 +2,7 @@ ghost use Rattle.search.specs.Questions.{SafeFor};
 ghost use Rattle.search.specs.Steps.{LowestIfAny, SomeOfThem};
 
 use crate::question::Question;
+use crate::ranking::sum_of;
 use moments::pair::{Direction, Pair};
 use moments::rule::DirectRule;
 
@@ -16,7 +17,7 @@ impl<R: DirectRule> Question<'_, R> {
 
     // The least sum of a safe pair in a column, or none where the column has no safe pair.
     fn column_sum(&self, mx: u32) -> Option<u64> {
-        self.lowest(mx).map(|pair| pair.mx as u64 + pair.my as u64)
+        self.lowest(mx).map(sum_of)
     }
 
     // A column whose least sum is close to the least of all, for most rules: the sums fall and then rise along the columns,
