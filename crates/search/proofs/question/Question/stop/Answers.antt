@@ -12,7 +12,7 @@ unwrap-number-requires g c =
     let m = g.R.YieldRule.meaning q.rule.now in
     let w = c.if-moment.false in
     let is = lowered_is c.args.direction c.across.result c.args.best c.along-lower.result c.moment-moment.result c.moment-2.result c.along-lower.ensures c.moment-moment.ensures c.moment-2.ensures c.across.ensures in
-    some_fails _ q.lines.now c.first_failing.result c.first_failing.ensures.lowest
+    some_fails _ q.lines.now c.first_failing.result (c.first_failing.ensures.lowest c.requires.rising)
     (λ all.
     fails_below m q.lines.now q.floor c.args.best c.args.direction c.requires.least
     (λ e. w (c.moment-moment.ensures ∙ e ∙ sym c.moment.ensures))
