@@ -1,4 +1,5 @@
-ghost use Rattle.std.specs.Prelude.{◌≡◌};
+ghost use Rattle.std.specs.Prelude.{◌≡◌, true};
+ghost use Rattle.table.specs.Lines.{climbing, all_sound};
 ghost use Rattle.script.specs.Commands.{rule_for};
 ghost use Rattle.script.specs.Lines.{command_of};
 ghost use Rattle.trial.specs.Checking.{checked, LowestNamed};
@@ -58,7 +59,9 @@ impl Session {
 
     // The cases, in rising order of their numbers.
     pub fn cases(&self) -> &[Line]
-        ensures { result.now ≡ self.now.cases }
+        ensures value { result.now ≡ self.now.cases }
+        ensures rising { climbing result.now ≡ true }
+        ensures ranged { all_sound result.now ≡ true }
     {
         self.cases.as_slice()
     }

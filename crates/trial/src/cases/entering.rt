@@ -1,4 +1,5 @@
-ghost use Rattle.std.specs.Prelude.{◌≡◌, []};
+ghost use Rattle.std.specs.Prelude.{◌≡◌, true, []};
+ghost use Rattle.table.specs.Lines.{climbing, all_sound};
 ghost use Rattle.trial.specs.Entering.{Entering};
 
 use crate::cases::Cases;
@@ -20,7 +21,9 @@ impl Cases {
 
     // The cases, in rising order of their numbers.
     pub fn as_slice(&self) -> &[Line]
-        ensures { result.now ≡ self.now }
+        ensures value { result.now ≡ self.now }
+        ensures rising { climbing result.now ≡ true }
+        ensures ranged { all_sound result.now ≡ true }
     {
         self.list.as_slice()
     }
