@@ -25,14 +25,14 @@ line_fits n t ls due =
 -- a refusal due by the first rows is due whatever rows follow
 pub due_first : (rows more : List (Bool × Refusal)) (e : Refusal) → first_refusal rows ≡ Some e → Some (number_of e) ≡ first_due (rows ++ more)
 due_first [] more e h = let z : ◌≡◌ {A = ℕ} 0 1 = cc in absurd (omega arith)
-due_first ((true , r) ∷ rows) more e h = cc
-due_first ((false , r) ∷ rows) more e h = due_first rows more e h
+due_first ((true, r) ∷ rows) more e h = cc
+due_first ((false, r) ∷ rows) more e h = due_first rows more e h
 
 -- where those rows have none due, the rows that follow tell
 pub due_later : (rows more : List (Bool × Refusal)) → first_refusal rows ≡ None → first_due more ≡ first_due (rows ++ more)
 due_later [] more h = refl
-due_later ((true , r) ∷ rows) more h = let z : ◌≡◌ {A = ℕ} 0 1 = cc in absurd (omega arith)
-due_later ((false , r) ∷ rows) more h = due_later rows more h
+due_later ((true, r) ∷ rows) more h = let z : ◌≡◌ {A = ℕ} 0 1 = cc in absurd (omega arith)
+due_later ((false, r) ∷ rows) more h = due_later rows more h
 
 -- what holds where a line may be entered
 pub record Free (n : ℕ) (t : Triad) (ls : List Line) : Type 0 where

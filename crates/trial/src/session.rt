@@ -78,9 +78,10 @@ impl Session {
         ensures value { result ≡ checked (face_meaning self.now face) pair self.now.cases }
         ensures lowest { LowestNamed (face_meaning self.now face) pair self.now.cases result }
     {
+        let Rules { bottom, top } = self.rules;
         match face {
-            Face::Bottom => self.cases.check(&self.rules.bottom, pair),
-            Face::Top => self.cases.check(&Turned { rule: self.rules.top }, pair),
+            Face::Bottom => self.cases.check(&bottom, pair),
+            Face::Top => self.cases.check(&Turned { rule: top }, pair),
         }
     }
 
@@ -88,9 +89,10 @@ impl Session {
     pub fn try_case(&self, face: Face, triad: Triad, pair: Pair) -> Option<Trial>
         ensures { Tried (face_meaning self.now face) (face_sides self.now face) triad pair result }
     {
+        let Rules { bottom, top } = self.rules;
         match face {
-            Face::Bottom => try_pair(&self.rules.bottom, triad, pair),
-            Face::Top => try_pair(&Turned { rule: self.rules.top }, triad, pair),
+            Face::Bottom => try_pair(&bottom, triad, pair),
+            Face::Top => try_pair(&Turned { rule: top }, triad, pair),
         }
     }
 
