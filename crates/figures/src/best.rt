@@ -16,18 +16,12 @@ use table::table::Table;
 
 const NO_FLOOR: Pair = Pair { mx: 0, my: 0 };
 
-// A table with these load cases under the numbers 1 and 2.
-fn two(one: (i32, i32, i32), other: (i32, i32, i32)) -> Result<Table, Refusal> {
-    let mut table = alone(one)?;
-    let (mx, my, mxy) = other;
-    table.enter(2, Triad { mx, my, mxy })?;
-    Ok(table)
-}
-
-fn alone(case: (i32, i32, i32)) -> Result<Table, Refusal> {
+// A table with these load cases under the numbers from 1 on.
+fn entered(cases: &[(i32, i32, i32)]) -> Result<Table, Refusal> {
     let mut table = Table::new();
-    let (mx, my, mxy) = case;
-    table.enter(1, Triad { mx, my, mxy })?;
+    for (number, (mx, my, mxy)) in (1u32..).zip(cases.iter().copied()) {
+        table.enter(number, Triad { mx, my, mxy })?;
+    }
     Ok(table)
 }
 
@@ -37,14 +31,14 @@ fn best<R: DirectRule>(rule: &R, table: &Table) -> Option<Pair> {
 
 #[test]
 fn one_case(rt: HostRuntime) -> Result<(), Fail> {
-    let table = alone((13, -8, 5))?;
+    let table = entered(&[(13, -8, 5)])?;
     assert_eq!(rt; best(&Yield, &table), Some(Pair { mx: 16, my: 1 }));
     let top = Turned { rule: Yield };
     assert_eq!(rt; best(&top, &table), Some(Pair { mx: 0, my: 10 }));
     let most = MOMENT_LIMIT;
     let ceiling = Yield.ceiling();
     assert_eq!(rt;
-        best(&Yield, &alone((most, most, most))?),
+        best(&Yield, &entered(&[(most, most, most)])?),
         Some(Pair {
             mx: ceiling,
             my: ceiling,
@@ -56,7 +50,7 @@ fn one_case(rt: HostRuntime) -> Result<(), Fail> {
 // (8, 8) has the same sum as (7, 9), and is safe too.
 #[test]
 fn of_equal_sums_the_smaller_mx(rt: HostRuntime) -> Result<(), Fail> {
-    let table = two((4, 5, 3), (5, 4, 3))?;
+    let table = entered(&[(4, 5, 3), (5, 4, 3)])?;
     assert_eq!(rt; best(&Yield, &table), Some(Pair { mx: 7, my: 9 }));
     assert_eq!(rt; table.first_failing(&Yield, Pair { mx: 8, my: 8 }), None);
     Ok(())
@@ -64,7 +58,7 @@ fn of_equal_sums_the_smaller_mx(rt: HostRuntime) -> Result<(), Fail> {
 
 #[test]
 fn floors_and_stops(rt: HostRuntime) -> Result<(), Fail> {
-    let table = two((40, 50, 30), (50, 40, 30))?;
+    let table = entered(&[(40, 50, 30), (50, 40, 30)])?;
     assert_eq!(rt; best(&Yield, &table), Some(Pair { mx: 75, my: 76 }));
     assert_eq!(rt; best(&BoxRule, &table), Some(Pair { mx: 80, my: 80 }));
     let carried = best_with_stops(&Yield, &LeastMx, &table, Pair { mx: 78, my: 0 })?;

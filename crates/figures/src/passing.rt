@@ -6,7 +6,6 @@ use moments::rule::{DirectRule, YieldRule};
 use moments::triad::Triad;
 use rules::box_rule::BoxRule;
 use rules::yield_rule::Yield;
-use std::test::Fail;
 
 // Mx, My, Mxy, mx, my, and whether the yield rule passes.
 const FIGURES: [(i32, i32, i32, u32, u32, bool); 5] = [
@@ -29,33 +28,21 @@ fn yield_figures(rt: HostRuntime) {
 
 // (17, 0) has 32 against 25, and (16, 0) has 24.
 #[test]
-fn both_sides(rt: HostRuntime) -> Result<(), Fail> {
+fn both_sides(rt: HostRuntime) {
     let triad = Triad {
         mx: 13,
         my: -8,
         mxy: 5,
     };
-    let enough = Yield
-        .sides(triad, Pair { mx: 17, my: 0 })
-        .ok_or("not asked")?;
-    assert_eq!(rt;
-        enough.product,
-        Some(Side {
-            given: 32,
-            needed: 25,
-        })
-    );
-    let short = Yield
-        .sides(triad, Pair { mx: 16, my: 0 })
-        .ok_or("not asked")?;
-    assert_eq!(rt;
-        short.product,
-        Some(Side {
-            given: 24,
-            needed: 25,
-        })
-    );
-    Ok(())
+    let product = |mx| {
+        Yield
+            .sides(triad, Pair { mx, my: 0 })
+            .and_then(|sides| sides.product)
+    };
+    let (given, needed) = (32, 25);
+    assert_eq!(rt; product(17), Some(Side { given, needed }));
+    let (given, needed) = (24, 25);
+    assert_eq!(rt; product(16), Some(Side { given, needed }));
 }
 
 #[test]
@@ -66,23 +53,11 @@ fn out_of_limits_passes_nothing(rt: HostRuntime) {
         mxy: 0,
     };
     let ceiling = Yield.ceiling();
-    assert!(rt;
-        !Yield.passes(
-            triad,
-            Pair {
-                mx: ceiling,
-                my: ceiling,
-            },
-        )
-    );
-    assert!(rt;
-        !BoxRule.passes(
-            triad,
-            Pair {
-                mx: ceiling,
-                my: ceiling,
-            },
-        )
-    );
+    let highest = Pair {
+        mx: ceiling,
+        my: ceiling,
+    };
+    assert!(rt; !Yield.passes(triad, highest));
+    assert!(rt; !BoxRule.passes(triad, highest));
     assert_eq!(rt; Yield.least_my(triad, ceiling), None);
 }

@@ -6,7 +6,8 @@ ghost use Rattle.moments.specs.Partners.{LeastMy, LeastMx, LeastAlong, OnePartne
 use crate::pair::{Direction, Pair};
 use crate::triad::Triad;
 
-// A yield rule, by what it means: a ceiling, and for each triad the pairs that it passes.
+// A yield rule, by what it means: a ceiling, and for each triad the pairs that it passes. A triad and a pair stay two arguments: the one
+// comes from a load case and the other from a designer, and each meets many of the other kind.
 pub trait YieldRule {
     ghost meaning: { Self → Meaning };
 

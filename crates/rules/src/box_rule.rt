@@ -31,6 +31,7 @@ impl YieldRule for BoxRule {
     }
 }
 
+// Both delivered rules have such a block: one block for a parameter would put a wrapper between a rule and its name.
 impl DirectRule for BoxRule {
     fn least_partner(&self, triad: Triad, direction: Direction, partner: u32) -> Option<u32> {
         match direction {

@@ -1,4 +1,4 @@
-// The words that a script is written with.
+// The words that a script is written with. What they stand for is told by functions here: its types belong to crates that know no script.
 ghost use Rattle.std.specs.Prelude.{◌≡◌};
 ghost use Rattle.script.specs.Keywords.{name_of, rule_of, face_of};
 
@@ -6,7 +6,7 @@ use explained::chosen::Chosen;
 use moments::pair::Face;
 
 // A command by its name.
-#[derive(Clone, Copy)]
+#[derive(Clone, Copy, PartialEq, Eq, Debug)]
 pub enum Name {
     Rules,
     Enter,

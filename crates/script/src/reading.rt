@@ -143,7 +143,7 @@ impl<'a> Words<'a> {
         })
     }
 
-    // Reads what follows a command's name.
+    // Reads what follows a command's name. The name stands for what is read next, since no function may hand another one out.
     fn body(&mut self, name: Name) -> Result<Command, Stuck>
         ensures { leaving result self.new ≡ body_at name self.old }
     {

@@ -34,7 +34,7 @@ impl<'a> Model for Word<'a> {
 
 // Where a word cannot be read, or is wanted, by the number of bytes of the text that are left there, and what is wrong. It is no `Unreadable`, since
 // a reader that could count from the front would hold the length of the text beside what is left, which is no plainer.
-#[derive(Clone, Copy)]
+#[derive(Clone, Copy, PartialEq, Eq, Debug)]
 pub struct Stuck {
     pub left: usize,
     pub why: Why,

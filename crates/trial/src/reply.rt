@@ -6,7 +6,7 @@ use script::command::Rules;
 use script::unreadable::Unreadable;
 
 // What came of one line of a script.
-#[derive(Clone, Copy)]
+#[derive(Clone, Copy, PartialEq, Eq, Debug)]
 pub enum Reply {
     // the line holds no command
     Nothing,

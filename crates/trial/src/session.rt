@@ -79,6 +79,7 @@ impl Session {
         ensures lowest { LowestNamed (face_meaning self.now face) pair self.now.cases result }
     {
         let Rules { bottom, top } = self.rules;
+        // each face has a rule of a type of its own
         match face {
             Face::Bottom => self.cases.check(&bottom, pair),
             Face::Top => self.cases.check(&Turned { rule: top }, pair),
@@ -90,6 +91,7 @@ impl Session {
         ensures { Tried (face_meaning self.now face) (face_sides self.now face) triad pair result }
     {
         let Rules { bottom, top } = self.rules;
+        // each face has a rule of a type of its own
         match face {
             Face::Bottom => try_pair(&bottom, triad, pair),
             Face::Top => try_pair(&Turned { rule: top }, triad, pair),

@@ -5,8 +5,9 @@ use moments::pair::Pair;
 use moments::triad::Triad;
 
 // What one load case says to a trial pair: whether it passes, both sides of each inequality, and the least partner of each moment.
-#[derive(Clone, Copy)]
+#[derive(Clone, Copy, PartialEq, Eq, Debug)]
 pub struct Trial {
+    // no `Option` around the others: they are told of a pair that fails too
     pub passed: bool,
     pub sides: Sides,
     pub least_my: Option<u32>,
