@@ -65,6 +65,7 @@ fn show_checked(
 // The question; the top face takes its rule turned over.
 fn show_question(rt: HostRuntime, rule: Chosen, face: Face, pair: Pair) -> io::Result<()> {
     let ceiling = rule.ceiling();
+    // each face has a rule of a type of its own
     match face {
         Face::Bottom => print!(rt; "check {face} {pair} by {rule} (ceiling {ceiling})"),
         Face::Top => {

@@ -8,6 +8,7 @@ use moments::pair::Pair;
 use moments::triad::Triad;
 use rules::box_rule::BoxRule;
 
+// Each rule names its own sides; what all rules have in common is `if_asked`.
 impl Explained for BoxRule {
     ghost inequalities = { λ _. box_sides };
 

@@ -8,6 +8,7 @@ use moments::pair::Pair;
 use moments::triad::Triad;
 use rules::yield_rule::Yield;
 
+// Each rule names its own sides; what all rules have in common is `if_asked`.
 impl Explained for Yield {
     ghost inequalities = { λ _. yield_sides };
 
