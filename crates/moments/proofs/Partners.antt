@@ -1,14 +1,8 @@
 -- Lemmas on least partners. Assumes nothing.
-use Rattle.std.proofs.Common.{◌≡◌, ℕ, ◌≤◌, Bool, T, Some, None, Option, sym, refl, ap, subst, le_antisymm}
-use Rattle.moments.specs.Partners.{Partner, OnePartner}
+use Rattle.std.proofs.Common.{◌≡◌, ℕ, ◌≤◌, Bool, T, Some, None, Option, sym, subst}
+use Rattle.moments.specs.Partners.{Partner}
 
 -- two tests that answer alike up to the top have the same least partner
 pub partner_like : (top : ℕ) (P Q : ℕ → Bool) (r : Option ℕ) → ((n : ℕ) → n ≤ top → P n ≡ Q n) → Partner top P r → Partner top Q r
 partner_like top P Q (Some y) e h = record { within = h.within; holds = subst T (e y h.within) h.holds; least = λ z w t. h.least z w (subst T (sym (e z w)) t) }
 partner_like top P Q None e h = λ z w t. h z w (subst T (sym (e z w)) t)
-
-pub one_partner : OnePartner
-one_partner top P (Some y) (Some z) h k = ap Some (le_antisymm (h.least z k.within k.holds) (k.least y h.within h.holds))
-one_partner top P (Some y) None h k = absurd (k y h.within h.holds)
-one_partner top P None (Some z) h k = absurd (h z k.within k.holds)
-one_partner top P None None h k = refl
