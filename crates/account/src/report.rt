@@ -65,7 +65,7 @@ fn show_checked(
 // The question; the top face takes its rule turned over.
 fn show_question(rt: HostRuntime, rule: Chosen, face: Face, pair: Pair) -> io::Result<()> {
     let ceiling = rule.ceiling();
-    // each face has a rule of a type of its own
+    // each face has a rule of a type of its own, as in the session
     match face {
         Face::Bottom => print!(rt; "check {face} {pair} by {rule} (ceiling {ceiling})"),
         Face::Top => {
@@ -75,6 +75,7 @@ fn show_question(rt: HostRuntime, rule: Chosen, face: Face, pair: Pair) -> io::R
     }
 }
 
+// Which case fails first, if any does.
 fn show_verdict(rt: HostRuntime, failing: Option<u32>) -> io::Result<()> {
     match failing {
         Some(number) => println!(rt; "  fails: case {number} is the first that fails"),

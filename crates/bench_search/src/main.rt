@@ -23,6 +23,7 @@ const TABLES: u32 = 20;
 // No floors.
 const FLOOR: Pair = Pair { mx: 0, my: 0 };
 
+// Counts the questions for four sizes of moments, and times the search where that is asked for.
 fn main(rt: HostRuntime) -> io::Result<()> {
     let timed = wants_time(rt)?;
     println!(rt;
@@ -100,10 +101,7 @@ fn compare(rt: HostRuntime, most: u32) -> io::Result<()> {
 }
 
 // What a step answers, and how long it takes.
-fn clocked<F: FnOnce() -> Option<Pair>>(
-    rt: HostRuntime,
-    step: F,
-) -> io::Result<(Option<Pair>, Duration)>
+fn clocked<T: Drop, F: FnOnce() -> T>(rt: HostRuntime, step: F) -> io::Result<(T, Duration)>
     requires { F.IsAlwaysCallable step }
 {
     let start = Instant::now(&rt)?;

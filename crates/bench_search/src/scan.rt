@@ -6,7 +6,7 @@ use table::line::Line;
 pub fn scan<R: DirectRule>(rule: &R, lines: &[Line], floor: Pair) -> Option<Pair> {
     (floor.mx..=rule.ceiling())
         .filter_map(|mx| least_my(rule, lines, floor, mx).map(|my| Pair { mx, my }))
-        .min_by_key(|pair| pair.mx as u64 + pair.my as u64)
+        .min_by_key(|pair| pair.sum())
 }
 
 // The least my of a column that all lines pass, at or above the floor.

@@ -7,7 +7,8 @@ use table::table::Table;
 // How many cases are entered at most.
 pub const SLOTS: usize = 8;
 
-// The same cases stand on the table and in the slots; both are of a fixed size, so that no case is left out for want of memory.
+// The same cases stand on the table and in the slots. A slot for each case that was tried, and no list of those that stand: the slots keep
+// the order of entering with nothing moved, and no case is left out for want of memory.
 #[derive(Clone, Copy)]
 pub struct Cases {
     pub table: Table,
@@ -26,11 +27,7 @@ pub fn random_cases(random: &mut Random, most: u32) -> Cases {
         }
     }
     for slot in slots.iter_mut() {
-        if let Some(line) = *slot {
-            if random.up_to(4) == 0 && table.withdraw(line.number).is_ok() {
-                *slot = None;
-            }
-        }
+        slot.take_if(|line| random.up_to(4) == 0 && table.withdraw(line.number).is_ok());
     }
     Cases { table, slots }
 }

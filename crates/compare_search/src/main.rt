@@ -24,6 +24,7 @@ const TABLES: u32 = 2_000;
 // The largest moment of a case and the largest floor.
 const MOST: u32 = 12;
 
+// Tries the delivered rules on both faces.
 fn main(rt: HostRuntime) -> io::Result<()> {
     println!(rt;
         "The search against a plain one: pairs in rising order of sum, then mx, until one is safe"

@@ -2,13 +2,14 @@ ghost use Rattle.std.specs.Prelude.{◌≡◌};
 ghost use Rattle.explained.specs.Inequalities.{box_sides};
 ghost use Rattle.std.proofs.Common.{rules};
 
-use crate::margins::{against, topped};
+use crate::margins::against;
 use crate::sides::{Explained, Sides, if_asked};
 use moments::pair::Pair;
 use moments::triad::Triad;
 use rules::box_rule::BoxRule;
+use rules::direction::topped;
 
-// Each rule names its own sides; what all rules have in common is `if_asked`.
+// No `sides` for all rules in the trait: a rule turned over has sides only where the triad can be negated.
 impl Explained for BoxRule {
     ghost inequalities = { λ _. box_sides };
 

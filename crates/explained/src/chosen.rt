@@ -15,7 +15,7 @@ use rules::yield_rule::Yield;
 use std::fmt;
 
 // A delivered rule, chosen by its name: it asks the rule of that name. Each method has its own `match`, since no contract can speak
-// of a closure over a `&dyn` rule yet, and no function may hand a `dyn` out.
+// of a closure over a `&dyn` rule, and no function may hand a `dyn` out.
 #[derive(Clone, Copy, PartialEq, Eq, Debug)]
 pub enum Chosen {
     Yield,

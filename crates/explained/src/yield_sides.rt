@@ -2,13 +2,14 @@ ghost use Rattle.std.specs.Prelude.{◌≡◌};
 ghost use Rattle.explained.specs.Inequalities.{product_side, yield_sides};
 ghost use Rattle.std.proofs.Common.{rules};
 
-use crate::margins::{against, excess, times};
+use crate::margins::{against, times};
 use crate::sides::{Explained, Side, Sides, if_asked};
 use moments::pair::Pair;
 use moments::triad::Triad;
+use rules::direction::excess;
 use rules::yield_rule::Yield;
 
-// Each rule names its own sides; what all rules have in common is `if_asked`.
+// No `sides` for all rules in the trait: a rule turned over has sides only where the triad can be negated.
 impl Explained for Yield {
     ghost inequalities = { λ _. yield_sides };
 

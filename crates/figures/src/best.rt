@@ -25,6 +25,7 @@ fn entered(cases: &[(i32, i32, i32)]) -> Result<Table, Refusal> {
     Ok(table)
 }
 
+// The best pair without floors.
 fn best<R: DirectRule>(rule: &R, table: &Table) -> Option<Pair> {
     best_pair(rule, table.standing(), NO_FLOOR)
 }

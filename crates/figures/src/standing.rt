@@ -5,6 +5,7 @@ use moments::triad::Triad;
 use std::test::Fail;
 use table::table::Table;
 
+// A triad of one moment.
 fn triad(mx: i32) -> Triad {
     Triad { mx, my: 0, mxy: 0 }
 }

@@ -41,6 +41,7 @@ impl DirectRule for BoxRule {
     }
 }
 
+// Whether the pair meets the box.
 fn boxed(triad: Triad, pair: Pair) -> bool
     ensures { result ≡ boxed_at triad pair.mx pair.my }
 {

@@ -2,6 +2,6 @@
 #![tactic(auto)]
 
 pub mod box_rule;
-mod direction;
+pub mod direction;
 pub mod readings;
 pub mod yield_rule;

@@ -39,6 +39,7 @@ impl Random {
         }
     }
 
+    // A moment of a size up to `most`, of either sign.
     fn moment(&mut self, most: u32) -> i32 {
         let size = self.up_to(most.min(MOMENT_LIMIT as u32)) as i32;
         if self.up_to(1) == 0 { size } else { -size }

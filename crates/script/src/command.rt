@@ -29,7 +29,7 @@ impl Rules {
 pub enum Command {
     // the yield rules of the two faces
     Rules(Rules),
-    // a load case, by its number and its moments, which are no line of a table while they may be out of their limits
+    // a load case, by its number and its moments, as every call that enters one is laid down to take it
     Enter { number: u32, triad: Triad },
     // a trial pair of yield moments on a face; the face only picks the rule that the pair is tried by
     Check { face: Face, pair: Pair },

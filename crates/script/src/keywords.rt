@@ -1,4 +1,5 @@
-// The words that a script is written with. What they stand for is told by functions here: its types belong to crates that know no script.
+// The words that a script is written with. Functions and no `TryFrom`: two of the types belong to crates that know no script, and all three
+// are read in one way.
 ghost use Rattle.std.specs.Prelude.{◌≡◌};
 ghost use Rattle.script.specs.Keywords.{name_of, rule_of, face_of};
 

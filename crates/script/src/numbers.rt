@@ -14,7 +14,7 @@ fn with_digit(value: u32, byte: u8) -> Option<u32>
     (grown <= LARGEST_NUMBER).then_some(grown)
 }
 
-// The whole number that the bytes stand for.
+// The whole number that the bytes stand for. Not by `parse`: a word is bytes, takes no `+`, and the limit is lower.
 pub fn whole_of(bytes: &[u8]) -> Option<u32>
     ensures value { result ≡ whole_of bytes.now }
     ensures within { IfSome result (λ n. n ≤ largest) }

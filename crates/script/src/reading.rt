@@ -172,7 +172,6 @@ impl<'a> Words<'a> {
         if self.rest.is_empty() {
             return Ok(None);
         }
-        let command = self.command()?;
-        Ok(Some(command))
+        self.command().map(Some)
     }
 }

@@ -6,7 +6,7 @@ ghost use Rattle.script.specs.Runs.{Computes, is_blank, from_first};
 pub fn is_blank(byte: u8) -> bool
     ensures { result ≡ is_blank byte }
 {
-    byte == b' ' || byte == b'\t' || byte == b'\r'
+    matches!(byte, b' ' | b'\t' | b'\r')
 }
 
 // What stands before the first byte that passes a test, all where none does, and what follows from there on.

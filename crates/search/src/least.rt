@@ -18,7 +18,7 @@ impl<R: DirectRule> Question<'_, R> {
             return None;
         }
         let mut need = low;
-        // a plain loop over the standing lines, as every question to all cases is asked
+        // a plain loop over the standing lines: the form laid down for questions to all cases
         for line in lines {
             need = need.max(rule.least_partner(line.triad, direction, partner)?);
         }

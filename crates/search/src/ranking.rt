@@ -1,5 +1,4 @@
 ghost use Rattle.std.specs.Prelude.{◌≡◌, Bool};
-ghost use Rattle.moments.specs.Pairs.{sum};
 ghost use Rattle.moments.specs.declared.pair.Pair.{Pair};
 ghost use Rattle.search.specs.Rankings.{Ranks, least_mx};
 ghost use Rattle.std.proofs.Common.{rules};
@@ -27,13 +26,6 @@ impl Ranking for LeastMx {
     ghost ranks = { Prim.search rules };
 
     fn prefers(&self, one: Pair, other: Pair) -> bool {
-        (sum_of(one), one.mx) < (sum_of(other), other.mx)
+        (one.sum(), one.mx) < (other.sum(), other.mx)
     }
-}
-
-// The sum of both moments.
-pub(crate) fn sum_of(pair: Pair) -> u64
-    ensures { result ≡ sum pair }
-{
-    pair.mx as u64 + pair.my as u64
 }

@@ -2,9 +2,9 @@ ghost use Rattle.search.specs.Questions.{SafeFor};
 ghost use Rattle.search.specs.Steps.{LowestIfAny, SomeOfThem};
 
 use crate::question::Question;
-use crate::ranking::sum_of;
 use moments::pair::{Direction, Pair};
 use moments::rule::DirectRule;
+use std::cmp::Reverse;
 
 impl<R: DirectRule> Question<'_, R> {
     // The lowest safe pair of a column, or none where the column has no safe pair.
@@ -15,9 +15,9 @@ impl<R: DirectRule> Question<'_, R> {
         Some(Pair { mx, my })
     }
 
-    // The least sum of a safe pair in a column, or none where the column has no safe pair.
-    fn column_sum(&self, mx: u32) -> Option<u64> {
-        self.lowest(mx).map(sum_of)
+    // The least sum of a safe pair in a column, the smaller the greater; none, which is less than all, where the column has no safe pair.
+    fn column_sum(&self, mx: u32) -> Option<Reverse<u64>> {
+        self.lowest(mx).map(|pair| Reverse(pair.sum()))
     }
 
     // A column whose least sum is close to the least of all, for most rules: the sums fall and then rise along the columns,
@@ -29,7 +29,7 @@ impl<R: DirectRule> Question<'_, R> {
             let third = (high - low) / 3;
             let left = low + third;
             let right = high - third;
-            if is_smaller(self.column_sum(left), self.column_sum(right)) {
+            if self.column_sum(left) > self.column_sum(right) {
                 high = right - 1;
             } else {
                 low = left + 1;
@@ -43,15 +43,10 @@ impl<R: DirectRule> Question<'_, R> {
         ensures { SomeOfThem (SafeFor R.YieldRule.meaning self.now) result }
     {
         let near = self.near_column();
-        // a match, as a closure for `or_else` would need the contract of `lowest` written out once more
+        // no `or_else`: its closure would have to carry the contract of `lowest`, which is no plainer
         match self.lowest(near) {
             None => self.lowest(self.rule.ceiling()),
             found => found,
         }
     }
-}
-
-// Whether a sum is smaller than another, where none is larger than any.
-fn is_smaller(sum: Option<u64>, other: Option<u64>) -> bool {
-    sum.is_some_and(|sum| other.is_none_or(|other| sum < other))
 }

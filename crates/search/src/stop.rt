@@ -3,6 +3,7 @@ use moments::pair::Pair;
 // What keeps a moment of the best pair from being one unit less: its floor, or a load case.
 #[derive(Clone, Copy, PartialEq, Eq, Debug)]
 pub enum Stop {
+    // no `Option` of a case: a floor is a stop of its own, and not the want of one
     Floor,
     Case(u32),
 }

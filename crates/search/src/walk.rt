@@ -22,6 +22,7 @@ fn highest_preferred<K: Ranking>(ranking: &K, best: Pair, from: u32) -> Option<u
     }
 }
 
+// The best pair so far is passed from step to step: a holder for it would be made anew at each turn of the walk.
 impl<R: DirectRule> Question<'_, R> {
     // The next column, from `from` on, that may hold a safe pair that is preferred to `best`.
     fn next_column<K: Ranking>(&self, ranking: &K, best: Pair, from: u32) -> Option<u32>

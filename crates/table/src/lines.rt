@@ -1,3 +1,4 @@
+// Lines in rising order, whoever holds them. They are plain slices, and no type that carries the order: so they are handed to callers.
 ghost use Rattle.std.specs.Prelude.{◌≡◌, true};
 ghost use Rattle.table.specs.Changes.{Admits};
 ghost use Rattle.table.specs.Failing.{passed_by, first_failing, FirstToFail};
@@ -46,7 +47,7 @@ pub fn first_failing<R: YieldRule>(rule: &R, lines: &[Line], pair: Pair) -> Opti
     ensures value { result ≡ first_failing (passed_by (R.YieldRule.meaning rule.now) pair) lines.now }
     ensures lowest { climbing lines.now ≡ true → FirstToFail (passed_by (R.YieldRule.meaning rule.now) pair) lines.now result }
 {
-    // a plain loop over the standing lines, as every question to all cases is asked
+    // a plain loop over the standing lines: the form laid down for questions to all cases
     for line in lines {
         if !rule.passes(line.triad, pair) {
             return Some(line.number);

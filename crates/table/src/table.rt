@@ -10,8 +10,9 @@ mod checking;
 mod making;
 
 // The load cases that stand: the first `count` places hold them, in strictly rising order of their numbers, and the others are free.
-// An array and a count, as a table takes the same memory however many lines stand and asks the heap for none. The facts are ghost fields and
-// no model, since a refusal leaves the free places as they were too, and a clause says so.
+// An array that begins as one blank line repeated, and a count: laid down for the product, as a table then takes the same memory however many
+// lines stand, asks the heap for none, and is copied as plain data. The facts are ghost fields and no model, since a refusal leaves the free
+// places as they were too, and a clause says so.
 #[derive(Clone, Copy)]
 pub struct Table {
     lines: [Line; MOST_LINES],

@@ -78,11 +78,11 @@ impl Session {
         ensures value { result ≡ checked (face_meaning self.now face) pair self.now.cases }
         ensures lowest { LowestNamed (face_meaning self.now face) pair self.now.cases result }
     {
-        let Rules { bottom, top } = self.rules;
-        // each face has a rule of a type of its own
+        let rule = self.rules.of(face);
+        // each face has a rule of a type of its own: one type for both would need a block of each of the three traits of rules
         match face {
-            Face::Bottom => self.cases.check(&bottom, pair),
-            Face::Top => self.cases.check(&Turned { rule: top }, pair),
+            Face::Bottom => self.cases.check(&rule, pair),
+            Face::Top => self.cases.check(&Turned { rule }, pair),
         }
     }
 
@@ -90,11 +90,11 @@ impl Session {
     pub fn try_case(&self, face: Face, triad: Triad, pair: Pair) -> Option<Trial>
         ensures { Tried (face_meaning self.now face) (face_sides self.now face) triad pair result }
     {
-        let Rules { bottom, top } = self.rules;
-        // each face has a rule of a type of its own
+        let rule = self.rules.of(face);
+        // each face has a rule of a type of its own, as in `check`
         match face {
-            Face::Bottom => try_pair(&bottom, triad, pair),
-            Face::Top => try_pair(&Turned { rule: top }, triad, pair),
+            Face::Bottom => try_pair(&rule, triad, pair),
+            Face::Top => try_pair(&Turned { rule }, triad, pair),
         }
     }
 

@@ -12,6 +12,7 @@ use std::fmt;
 #[derive(Clone, Copy, PartialEq, Eq, Debug)]
 pub enum Trouble {
     Refused(Refusal),
+    // no `Option` of a refusal: want of memory is a trouble of its own
     NoMemory,
 }
 
