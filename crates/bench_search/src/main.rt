@@ -7,7 +7,7 @@ mod scan;
 
 use counted::{Heard, Questions};
 use moments::limits::{LAST_CASE, MOST_LINES};
-use moments::pair::Pair;
+use moments::pair::NO_FLOORS;
 use rules::yield_rule::Yield;
 use samples::Random;
 use scan::scan;
@@ -19,9 +19,6 @@ use table::table::Table;
 
 // How many tables are tried for each size of moments.
 const TABLES: u32 = 20;
-
-// No floors.
-const FLOOR: Pair = Pair { mx: 0, my: 0 };
 
 // Counts the questions for four sizes of moments, and times the search where that is asked for.
 fn main(rt: HostRuntime) -> io::Result<()> {
@@ -69,7 +66,7 @@ fn questions(table: &Table) -> Questions {
         rule: Yield,
         listener: Cell::new(Questions::default()),
     };
-    let _ = best_pair(&rule, table.standing(), FLOOR);
+    let _ = best_pair(&rule, table.standing(), NO_FLOORS);
     rule.listener.get()
 }
 
@@ -85,9 +82,9 @@ fn compare(rt: HostRuntime, most: u32) -> io::Result<()> {
     let mut same = 0u32;
     for _ in 0..TABLES {
         let table = full_table(&mut random, most);
-        let (found, took) = clocked(rt, || best_pair(&Yield, table.standing(), FLOOR))?;
+        let (found, took) = clocked(rt, || best_pair(&Yield, table.standing(), NO_FLOORS))?;
         fast = fast.saturating_add(took);
-        let (scanned, took) = clocked(rt, || scan(&Yield, table.standing(), FLOOR))?;
+        let (scanned, took) = clocked(rt, || scan(&Yield, table.standing(), NO_FLOORS))?;
         slow = slow.saturating_add(took);
         if found == scanned {
             same = same.saturating_add(1);

@@ -1,6 +1,6 @@
 // Best pairs and what stops their moments.
 use moments::limits::MOMENT_LIMIT;
-use moments::pair::Pair;
+use moments::pair::{NO_FLOORS, Pair};
 use moments::refusal::Refusal;
 use moments::rule::{DirectRule, YieldRule};
 use moments::triad::Triad;
@@ -14,8 +14,6 @@ use search::stops::best_with_stops;
 use std::test::Fail;
 use table::table::Table;
 
-const NO_FLOOR: Pair = Pair { mx: 0, my: 0 };
-
 // A table with these load cases under the numbers from 1 on.
 fn entered(cases: &[(i32, i32, i32)]) -> Result<Table, Refusal> {
     let mut table = Table::new();
@@ -27,7 +25,7 @@ fn entered(cases: &[(i32, i32, i32)]) -> Result<Table, Refusal> {
 
 // The best pair without floors.
 fn best<R: DirectRule>(rule: &R, table: &Table) -> Option<Pair> {
-    best_pair(rule, table.standing(), NO_FLOOR)
+    best_pair(rule, table.standing(), NO_FLOORS)
 }
 
 #[test]

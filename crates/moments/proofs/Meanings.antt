@@ -4,14 +4,14 @@ use Rattle.std.proofs.lemmas.Bool.{or_parts, ltb-false}
 use Rattle.moments.specs.Meanings.{Meaning, Lawful, asked, passed, passed_at, above_ceiling}
 use Rattle.moments.specs.Pairs.{moment_in}
 use Rattle.moments.specs.declared.pair.Direction.{Direction}
-use Rattle.moments.specs.declared.pair.Direction.TheVariants.{X}
+use Rattle.moments.specs.declared.pair.Direction.TheVariants.{X, Y}
 use Rattle.moments.specs.declared.pair.Pair.{Pair}
-use Rattle.moments.specs.Triads.{in_limits, exchanged_triad}
+use Rattle.moments.specs.Triads.{in_limits, exchanged_triad, seen_along}
 use Rattle.moments.specs.declared.triad.Triad.{Triad}
 use Rattle.moments.specs.Tests.{both, join, and_yes, and_comm}
 use Rattle.moments.proofs.Pairs.{both_ways}
 use Rattle.moments.specs.TriadsLemmas.{in_limits_exchanged}
-use Rattle.moments.specs.Partners.{LeastMy, LeastMx}
+use Rattle.moments.specs.Partners.{LeastMy, LeastAlong}
 use Rattle.moments.proofs.Partners.{partner_like}
 
 -- within the limits and up to the ceiling a rule answers by its meaning alone
@@ -22,9 +22,10 @@ passed_within m t x y i h k = and_yes (asked m t x y) _ (join _ _ i (join _ _ (l
 exchanged_passed : (m : Meaning) → ((t : Triad) (x y : ℕ) → m.passing (exchanged_triad t) y x ≡ m.passing t x y) → (t : Triad) (x y : ℕ) → passed m (exchanged_triad t) y x ≡ passed m t x y
 exchanged_passed m e t x y = simp (in_limits_exchanged, e) (ap (λ (b : Bool). (in_limits t && b) && m.passing t x y) (and_comm (leb y m.ceiling) (leb x m.ceiling)))
 
--- and its least my for the exchanged triad is its least mx
-pub exchanged_partner : (m : Meaning) → ((t : Triad) (x y : ℕ) → m.passing (exchanged_triad t) y x ≡ m.passing t x y) → (t : Triad) (k : ℕ) (r : Option ℕ) → LeastMy m (exchanged_triad t) k r → LeastMx m t k r
-exchanged_partner m e t k r h = partner_like _ _ _ _ (λ x _. exchanged_passed m e t x k) h
+-- and its least my for the triad as seen along a direction is its least partner in that direction
+pub seen_partner : (m : Meaning) → ((t : Triad) (x y : ℕ) → m.passing (exchanged_triad t) y x ≡ m.passing t x y) → (d : Direction) (t : Triad) (k : ℕ) (r : Option ℕ) → LeastMy m (seen_along d t) k r → LeastAlong m t d k r
+seen_partner m e X t k r h = partner_like _ _ _ _ (λ x _. exchanged_passed m e t x k) h
+seen_partner m e Y t k r h = h
 
 -- what a rule passes is passed by its meaning
 pub passing_of : (m : Meaning) (t : Triad) (x y : ℕ) → T (passed m t x y) → T (m.passing t x y)

@@ -3,9 +3,9 @@ use Rattle.std.specs.Prelude.{◌≡◌, ℕ, ◌≤◌, T, ℤ, pos, ◌+ℤ◌
 use Rattle.std.proofs.Common.{sym, ◌∙◌, arith, lit≤}
 use Rattle.std.proofs.lemmas.Int.{ints}
 use Rattle.moments.specs.Meanings.{Lawful, passed}
-use Rattle.moments.specs.Triads.{in_range, in_limits}
+use Rattle.moments.specs.Triads.{in_range, in_limits, exchanged_triad}
 use Rattle.moments.specs.declared.triad.Triad.{Triad}
-use Rattle.moments.specs.Tests.{both, join, and_yes}
+use Rattle.moments.specs.Tests.{both, join, and_yes, and_comm}
 use Rattle.moments.specs.TriadsLemmas.{ends}
 use Rattle.moments.proofs.Meanings.{passed_within}
 use Rattle.rules.specs.Criteria.{delivered_ceiling, boxed_at, box_meaning}
@@ -34,6 +34,9 @@ box_lawful = record { bounded = lit≤ tt; growth = growth; summit = summit }
         let p : T (in_range t.mx) × T _ = both _ _ i in
         let q : T (in_range t.my) × T (in_range t.mxy) = both _ _ p.1 in
         join _ _ (reach_summit t.mx t.mxy p.0 q.1) (reach_summit t.my t.mxy q.0 q.1)
+
+pub boxed_exchanged : (t : Triad) (x y : ℕ) → boxed_at (exchanged_triad t) y x ≡ boxed_at t x y
+boxed_exchanged t x y = and_comm (int_le (corner t.my t.mxy) (pos y)) (int_le (corner t.mx t.mxy) (pos x))
 
 -- the partners are the moments that reach My with the twisting moment on top
 pub boxed_reaching : (t : Triad) (x : ℕ) → T (in_limits t) → x ≤ delivered_ceiling → T (int_le (corner t.mx t.mxy) (pos x)) → (y : ℕ) → y ≤ delivered_ceiling → int_le (corner t.my t.mxy) (pos y) ≡ passed box_meaning t x y

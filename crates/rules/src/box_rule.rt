@@ -14,6 +14,7 @@ use moments::triad::Triad;
 #[derive(Clone, Copy, PartialEq, Eq, Debug)]
 pub struct BoxRule;
 
+// Both delivered rules have these two blocks: blocks for a parameter would put a wrapper between a rule and its name.
 impl YieldRule for BoxRule {
     ghost meaning = { λ _. box_meaning };
 
@@ -31,13 +32,9 @@ impl YieldRule for BoxRule {
     }
 }
 
-// Both delivered rules have such a block: one block for a parameter would put a wrapper between a rule and its name.
 impl DirectRule for BoxRule {
     fn least_partner(&self, triad: Triad, direction: Direction, partner: u32) -> Option<u32> {
-        match direction {
-            Direction::X => least_my(triad.exchanged(), partner),
-            Direction::Y => least_my(triad, partner),
-        }
+        least_my(triad.seen_along(direction), partner)
     }
 }
 

@@ -15,6 +15,7 @@ use moments::triad::Triad;
 #[derive(Clone, Copy, PartialEq, Eq, Debug)]
 pub struct Yield;
 
+// Both delivered rules have these two blocks: blocks for a parameter would put a wrapper between a rule and its name.
 impl YieldRule for Yield {
     ghost meaning = { λ _. yield_meaning };
 
@@ -32,13 +33,9 @@ impl YieldRule for Yield {
     }
 }
 
-// Both delivered rules have such a block: one block for a parameter would put a wrapper between a rule and its name.
 impl DirectRule for Yield {
     fn least_partner(&self, triad: Triad, direction: Direction, partner: u32) -> Option<u32> {
-        match direction {
-            Direction::X => least_my(triad.exchanged(), partner),
-            Direction::Y => least_my(triad, partner),
-        }
+        least_my(triad.seen_along(direction), partner)
     }
 }
 

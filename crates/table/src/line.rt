@@ -7,7 +7,7 @@ pub struct Line {
     pub triad: Triad,
 }
 
-// What a free place of a table holds.
+// What a free place of a table holds: a blank line, as laid down, and no `Option`.
 pub(crate) const BLANK: Line = Line {
     number: 0,
     triad: Triad {
