@@ -20,7 +20,8 @@ pub fn excess(moment: u32, bending: i32) -> i64
 pub(crate) fn margin(moment: u32, bending: i32) -> Option<u64>
     ensures { Margin moment bending result }
 {
-    u64::try_from(excess(moment, bending)).ok()
+    let above = excess(moment, bending);
+    (above >= 0).then(|| above.unsigned_abs())
 }
 
 // A bending moment with `more` on top.
