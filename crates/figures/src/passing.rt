@@ -61,3 +61,21 @@ fn out_of_limits_passes_nothing(rt: HostRuntime) {
     assert!(rt; !BoxRule.passes(triad, highest));
     assert_eq!(rt; Yield.least_my(triad, ceiling), None);
 }
+
+// A rule that the program knows only behind a trait object.
+fn partners(rule: &dyn DirectRule, triad: Triad, pair: Pair) -> (Option<u32>, Option<u32>) {
+    (rule.least_my(triad, pair.mx), rule.least_mx(triad, pair.my))
+}
+
+// (17, 0) is passed, and (16, 0) is not; no my goes with the mx that the box can't reach.
+#[test]
+fn a_rule_behind_an_object(rt: HostRuntime) {
+    let triad = Triad {
+        mx: 13,
+        my: -8,
+        mxy: 5,
+    };
+    let pair = Pair { mx: 17, my: 0 };
+    assert_eq!(rt; partners(&Yield, triad, pair), (Some(0), Some(17)));
+    assert_eq!(rt; partners(&BoxRule, triad, pair), (None, Some(18)));
+}

@@ -28,15 +28,15 @@ pub trait DirectRule: YieldRule {
     fn least_partner(&self, triad: Triad, direction: Direction, partner: u32) -> Option<u32>
         ensures { LeastAlong (Self.YieldRule.meaning self.now) triad direction partner result };
 
-    // The least my that passes together with mx.
-    final fn least_my(&self, triad: Triad, mx: u32) -> Option<u32>
+    // The least my that passes together with mx. Neither this nor the next is `final`: a rule behind a trait object may be asked too.
+    fn least_my(&self, triad: Triad, mx: u32) -> Option<u32>
         ensures { LeastMy (Self.YieldRule.meaning self.now) triad mx result }
     {
         self.least_partner(triad, Direction::Y, mx)
     }
 
     // The least mx that passes together with my.
-    final fn least_mx(&self, triad: Triad, my: u32) -> Option<u32>
+    fn least_mx(&self, triad: Triad, my: u32) -> Option<u32>
         ensures { LeastMx (Self.YieldRule.meaning self.now) triad my result }
     {
         self.least_partner(triad, Direction::X, my)
