@@ -26,16 +26,20 @@ impl<'a, F: Fn(Triad, Pair) -> bool> Question<'a, F> {
             .find(|pair| self.safe(*pair))
     }
 
-    // What stops the moment of a pair in a direction, if anything does.
+    // What stops the moment of a pair in a direction, if anything does. The pair with that moment one unit less is made by its fields, and not as
+    // the search makes it, so that a slip there shows here.
     pub fn stop(&self, pair: Pair, direction: Direction) -> Option<Stop>
         requires { F.IsAlwaysCallable self.now.passes }
     {
-        let moment = pair.moment(direction);
-        if moment == self.floor.moment(direction) {
+        let mut lower = pair;
+        let (moment, floor) = match direction {
+            Direction::X => (&mut lower.mx, self.floor.mx),
+            Direction::Y => (&mut lower.my, self.floor.my),
+        };
+        if *moment == floor {
             return Some(Stop::Floor);
         }
-        let partner = pair.moment(direction.across());
-        let lower = Pair::along(direction, moment.saturating_sub(1), partner);
+        *moment = moment.saturating_sub(1);
         self.lowest_failing(lower).map(Stop::Case)
     }
 
