@@ -7,6 +7,7 @@ use moments::limits::{LAST_CASE, MOMENT_LIMIT};
 use report::show;
 use script::lines::lines_of;
 use std::io::Read;
+use trial::reply::Reply;
 use trial::session::Session;
 
 // Reads the whole script, obeys its lines in their order, and prints what came of each.
@@ -19,7 +20,10 @@ fn main(rt: HostRuntime) -> anyhow::Result<()> {
     )?;
     for (number, line) in (1u64..).zip(lines_of(script.as_slice())) {
         let reply = session.obey(line);
-        show(rt, number, &session, reply)?;
+        // a long script may be blank lines and comments for the most part: nothing is shown of them, and no call made
+        if reply != Reply::Nothing {
+            show(rt, number, &session, reply)?;
+        }
     }
     Ok(())
 }

@@ -33,13 +33,13 @@ pub fn show(rt: HostRuntime, line: u64, session: &Session, reply: Reply) -> io::
             pair,
             outcome,
         } => {
-            print!(rt; "line {line}: ")?;
+            show_question(rt, line, session.rule(face), face, pair)?;
             show_checked(rt, session, face, pair, outcome)
         }
     }
 }
 
-// A trial pair on a face: what each case says to it, and which case fails first.
+// What came of a trial pair on a face: what each case says to it, and which case fails first.
 fn show_checked(
     rt: HostRuntime,
     session: &Session,
@@ -47,7 +47,6 @@ fn show_checked(
     pair: Pair,
     outcome: Result<Option<u32>, Refusal>,
 ) -> io::Result<()> {
-    show_question(rt, session.rule(face), face, pair)?;
     match outcome {
         Ok(failing) => {
             println!(rt; "")?;
@@ -62,15 +61,23 @@ fn show_checked(
     }
 }
 
-// The question; the top face takes its rule turned over.
-fn show_question(rt: HostRuntime, rule: Chosen, face: Face, pair: Pair) -> io::Result<()> {
+// The question, in one write with the line's number; the top face takes its rule turned over.
+fn show_question(
+    rt: HostRuntime,
+    line: u64,
+    rule: Chosen,
+    face: Face,
+    pair: Pair,
+) -> io::Result<()> {
     let ceiling = rule.ceiling();
     // each face has a rule of a type of its own, as in the session
     match face {
-        Face::Bottom => print!(rt; "check {face} {pair} by {rule} (ceiling {ceiling})"),
+        Face::Bottom => {
+            print!(rt; "line {line}: check {face} {pair} by {rule} (ceiling {ceiling})")
+        }
         Face::Top => {
             let above = Turned { rule };
-            print!(rt; "check {face} {pair} by {above} (ceiling {ceiling})")
+            print!(rt; "line {line}: check {face} {pair} by {above} (ceiling {ceiling})")
         }
     }
 }
