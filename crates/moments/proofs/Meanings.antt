@@ -19,7 +19,7 @@ pub passed_within : (m : Meaning) (t : Triad) (x y : ℕ) → T (in_limits t) �
 passed_within m t x y i h k = and_yes (asked m t x y) _ (join _ _ i (join _ _ (le→leb x _ h) (le→leb y _ k)))
 
 -- a rule that treats both directions alike answers alike for the exchanged triad and pair
-exchanged_passed : (m : Meaning) → ((t : Triad) (x y : ℕ) → m.passing (exchanged_triad t) y x ≡ m.passing t x y) → (t : Triad) (x y : ℕ) → passed m (exchanged_triad t) y x ≡ passed m t x y
+pub exchanged_passed : (m : Meaning) → ((t : Triad) (x y : ℕ) → m.passing (exchanged_triad t) y x ≡ m.passing t x y) → (t : Triad) (x y : ℕ) → passed m (exchanged_triad t) y x ≡ passed m t x y
 exchanged_passed m e t x y = simp (in_limits_exchanged, e) (ap (λ (b : Bool). (in_limits t && b) && m.passing t x y) (and_comm (leb y m.ceiling) (leb x m.ceiling)))
 
 -- and its least my for the triad as seen along a direction is its least partner in that direction

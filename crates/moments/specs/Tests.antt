@@ -1,6 +1,6 @@
 -- Lemmas on tests joined by `&&`. Assumes nothing.
-use Rattle.std.specs.Prelude.{◌≡◌, ℕ, Bool, true, false, cond, ◌&&◌, T, Some, None, refl}
-use Rattle.std.proofs.Common.{sym, arith}
+use Rattle.std.specs.Prelude.{◌≡◌, ℕ, Bool, true, false, cond, ◌&&◌, T, Some, None, Decides, ◌≢◌, refl}
+use Rattle.std.proofs.Common.{sym, subst, arith}
 
 -- both parts of a test that passed, and back
 pub both : (a b : Bool) → T (a && b) → T a × T b
@@ -49,3 +49,13 @@ some_by_test false s t e = let z : ◌≡◌ {A = ℕ} 0 1 = cc in absurd (omega
 pub none_by_test : {A : Type 0} (b : Bool) (t : A) → None ≡ cond b (Some t) None → false ≡ b
 none_by_test true t e = let z : ◌≡◌ {A = ℕ} 0 1 = cc in absurd (omega arith)
 none_by_test false t e = refl
+
+-- a test that passes exactly where P holds
+pub decides_test : {P : Type 0} (b : Bool) → (T b → P) → (P → T b) → Decides b P
+decides_test true f g = (λ _. f tt, λ _. refl)
+decides_test false f g = (λ e. absurd (subst T (sym e) tt), λ p. absurd (g p))
+
+-- a test that can't pass fails
+pub not_so : (b : Bool) → (b ≢ true) → b ≡ false
+not_so true f = absurd (f refl)
+not_so false f = refl

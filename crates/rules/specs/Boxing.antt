@@ -1,13 +1,13 @@
 -- The box: its laws, and its least partners. Assumes nothing.
-use Rattle.std.specs.Prelude.{◌≡◌, ℕ, ◌≤◌, T, ℤ, pos, ◌+ℤ◌, int_le, unsigned_abs}
-use Rattle.std.proofs.Common.{sym, ◌∙◌, arith, lit≤}
+use Rattle.std.specs.Prelude.{◌≡◌, ℕ, ◌≤◌, false, T, ℤ, pos, ◌+ℤ◌, int_le, unsigned_abs}
+use Rattle.std.proofs.Common.{sym, subst, ◌∙◌, arith, lit≤}
 use Rattle.std.proofs.lemmas.Int.{ints}
 use Rattle.moments.specs.Meanings.{Lawful, passed}
 use Rattle.moments.specs.Triads.{in_range, in_limits, exchanged_triad}
 use Rattle.moments.specs.declared.triad.Triad.{Triad}
 use Rattle.moments.specs.Tests.{both, join, and_yes, and_comm}
 use Rattle.moments.specs.TriadsLemmas.{ends}
-use Rattle.moments.proofs.Meanings.{passed_within}
+use Rattle.moments.proofs.Meanings.{passed_within, passing_of}
 use Rattle.rules.specs.Criteria.{delivered_ceiling, boxed_at, box_meaning}
 use Rattle.rules.specs.MarginsLemmas.{at_most_size}
 
@@ -37,6 +37,10 @@ box_lawful = record { bounded = lit≤ tt; growth = growth; summit = summit }
 
 pub boxed_exchanged : (t : Triad) (x y : ℕ) → boxed_at (exchanged_triad t) y x ≡ boxed_at t x y
 boxed_exchanged t x y = and_comm (int_le (corner t.my t.mxy) (pos y)) (int_le (corner t.mx t.mxy) (pos x))
+
+-- no partner for a moment that does not reach Mx with the twisting moment on top
+pub boxed_below : (t : Triad) (x y : ℕ) → false ≡ int_le (corner t.mx t.mxy) (pos x) → T (passed box_meaning t x y) → ⊥
+boxed_below t x y e p = subst T (sym e) (both (int_le (corner t.mx t.mxy) (pos x)) _ (passing_of box_meaning t x y p)).0
 
 -- the partners are the moments that reach My with the twisting moment on top
 pub boxed_reaching : (t : Triad) (x : ℕ) → T (in_limits t) → x ≤ delivered_ceiling → T (int_le (corner t.mx t.mxy) (pos x)) → (y : ℕ) → y ≤ delivered_ceiling → int_le (corner t.my t.mxy) (pos y) ≡ passed box_meaning t x y

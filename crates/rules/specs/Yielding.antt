@@ -1,5 +1,5 @@
 -- The yield criterion: on naturals, its laws, and its least partners. Assumes nothing.
-use Rattle.std.specs.Prelude.{◌≡◌, ℕ, ◌*◌, ◌≤◌, ◌&&◌, T, ℤ, pos, ◌+ℤ◌, ◌-ℤ◌, ◌*ℤ◌, ◌<ℤ◌, int_le, nat_le, unsigned_abs}
+use Rattle.std.specs.Prelude.{◌≡◌, ℕ, ◌*◌, ◌≤◌, false, ◌&&◌, T, ℤ, pos, ◌+ℤ◌, ◌-ℤ◌, ◌*ℤ◌, ◌<ℤ◌, int_le, nat_le, unsigned_abs}
 use Rattle.std.proofs.Common.{sym, ap, subst, ◌∙◌, le_trans, mul-le-mul, mul-le-mul_left, arith, leb→le, le→leb, lit≤}
 use Rattle.std.proofs.Math.IntN.{*ℤ_comm}
 use Rattle.std.proofs.lemmas.Int.{ints}
@@ -74,6 +74,13 @@ yield_lawful = record { bounded = lit≤ tt; growth = λ t x y u v _ h k _ _ p. 
 pub yields_exchanged : (t : Triad) (x y : ℕ) → yields_at (exchanged_triad t) y x ≡ yields_at t x y
 yields_exchanged t x y =
     and_swap (int_le t.my (pos y)) (int_le t.mx (pos x)) _ ∙ ap (λ (z : ℤ). int_le t.mx (pos x) && (int_le t.my (pos y) && int_le (t.mxy *ℤ t.mxy) z)) (*ℤ_comm (pos y -ℤ t.my) (pos x -ℤ t.mx))
+
+-- a moment below its bending moment fails the test, in either direction
+pub yields_not : (t : Triad) (x y : ℕ) → pos x <ℤ t.mx → false ≡ yields_at t x y
+yields_not t x y h = same_test false (yields_at t x y) (λ f. absurd f) (λ p. omega (arith, ints, (margins t x y p).x_is))
+
+pub yields_not_across : (t : Triad) (x y : ℕ) → pos y <ℤ t.my → false ≡ yields_at t x y
+yields_not_across t x y h = yields_not (exchanged_triad t) y x h ∙ yields_exchanged t x y
 
 -- no partner below the bending moment
 pub yields_below : (t : Triad) (x y : ℕ) → pos x <ℤ t.mx → T (passed yield_meaning t x y) → ⊥

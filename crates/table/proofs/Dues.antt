@@ -11,7 +11,7 @@ use Rattle.table.specs.Lines.{is_number, line_of, sound, stands}
 use Rattle.table.specs.Changes.{line_due, enter_due, withdraw_due}
 
 -- where no row is due, its test fails and no later row is due
-not_due : {A : Type 0} (b : Bool) (a : A) (o : Option A) → cond b (Some a) o ≡ None → (b ≡ false) × (o ≡ None)
+pub not_due : {A : Type 0} (b : Bool) (a : A) (o : Option A) → cond b (Some a) o ≡ None → (b ≡ false) × (o ≡ None)
 not_due true a o h = let z : ◌≡◌ {A = ℕ} 0 1 = cc in absurd (omega arith)
 not_due false a o h = (refl, h)
 

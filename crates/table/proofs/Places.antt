@@ -60,6 +60,12 @@ entered_inserted k (l ∷ ls) (suc at) f =
     let lt = f.lower 0 l (omega arith) (omega arith) in
     cond-true _ _ _ (lt-ltb l.number k.number lt) ∙ ap (λ xs. l ∷ xs) (entered_inserted k ls at (fits_later k.number l ls at f))
 
+-- a line that has the number stands, whatever the order
+pub stands_at : (n : ℕ) (ls : List Line) (k : ℕ) (d : Line) → k < length ls → (get_or ls k d).number ≡ n → stands n ls ≡ true
+stands_at n [] k d h e = absurd (omega arith)
+stands_at n (l ∷ ls) zero d h e = or_left _ (stands n ls) (eq-eqb _ _ e)
+stands_at n (l ∷ ls) (suc k) d h e = or_right (eqb l.number n) _ (stands_at n ls k d (omega arith) e)
+
 -- the number stands with the moments of the line at its place, and withdrawing it takes that line
 pub record Leaves (n : ℕ) (ls : List Line) (at : ℕ) : Type 0 where
   pub there : stands n ls ≡ true
