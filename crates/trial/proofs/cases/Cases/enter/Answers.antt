@@ -1,4 +1,4 @@
-use Rattle.std.proofs.Common.{◌≡◌, ℕ, true, List, Ok, sym, ap, ◌∙◌, subst}
+use Rattle.std.proofs.Common.{◌≡◌, ℕ, true, List, Ok, sym, ap, ◌∙◌, subst, arith}
 use Rattle.std.specs.List.{insert}
 use Rattle.moments.specs.declared.triad.Triad.{Triad}
 use Rattle.table.specs.Changes.{Admits}
@@ -11,11 +11,11 @@ use Rattle.trial.specs.Entering.{InOrder}
 use Rattle.trial.proofs.cases.Cases.enter.Goals as goal
 
 -- a case that is admitted goes to its place, and the order and the ranges stay
-module _ (n : ℕ) (t : Triad) (cs : List Line) (at : ℕ) (order : InOrder cs) (admitted : Admits n t cs (Ok at)) where
-  in_place : insert cs at (line_of n t) ≡ entered (line_of n t) cs
-  in_place = sym (entered_inserted (line_of n t) cs at admitted.1)
+module _ (n : ℕ) (t : Triad) (cs : List Line) (at place : ℕ) (order : InOrder cs) (admitted : Admits n t cs (Ok at)) (same : place ≡ at) where
+  in_place : insert cs place (line_of n t) ≡ entered (line_of n t) cs
+  in_place = ap (λ i. insert cs i (line_of n t)) same ∙ sym (entered_inserted (line_of n t) cs at admitted.1)
 
-  in_order : InOrder (insert cs at (line_of n t))
+  in_order : InOrder (insert cs place (line_of n t))
   in_order =
       record {
         rising = ap climbing in_place ∙ climbing-entered (line_of n t) cs order.rising (fits_absent n cs at admitted.1);
@@ -30,10 +30,10 @@ pub invariant_of-self-2 : goal.invariant_of-self-2
 invariant_of-self-2 c =
     let cs = c.self.inside.list.items in
     let a = admitted_to c.args.number c.args.triad c.in_ok-at.at _ cs c.as_slice.ensures.value c.self.invariant c.in_ok-at.ensures in
-    rw c.in_ok-insert.ensures.items (in_order c.args.number c.args.triad cs c.in_ok-at.at c.self.invariant a)
+    rw c.in_ok-insert.ensures.items (in_order c.args.number c.args.triad cs c.in_ok-at.at _ c.self.invariant a (omega arith))
 
 pub returns : goal.returns
 returns c =
     let cs = c.self.inside.list.items in
     let a = admitted_to c.args.number c.args.triad c.in_ok-at.at _ cs c.as_slice.ensures.value c.self.invariant c.in_ok-at.ensures in
-    rw (← c.self.view_is) (a.0, c.in_ok-insert.ensures.items ∙ in_place c.args.number c.args.triad cs c.in_ok-at.at c.self.invariant a)
+    rw (← c.self.view_is) (a.0, c.in_ok-insert.ensures.items ∙ in_place c.args.number c.args.triad cs c.in_ok-at.at _ c.self.invariant a (omega arith))
