@@ -20,7 +20,7 @@ fn main(rt: HostRuntime) -> anyhow::Result<()> {
     )?;
     for (number, line) in (1u64..).zip(lines_of(script.as_slice())) {
         let reply = session.obey(line);
-        // a long script may be blank lines and comments for the most part: nothing is shown of them, and no call made
+        // a long script may be blank lines and comments for the most part: nothing is shown of them, and `show` is not called
         if reply != Reply::Nothing {
             show(rt, number, &session, reply)?;
         }

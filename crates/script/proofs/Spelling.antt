@@ -78,6 +78,10 @@ step {X} f e g = ap (λ (r : Read X). next r f) e ∙ g
 meant_at : {X : Type 0} {f : List ℕ → Option X} {w : List ℕ} {x : X} → Reads f w x → (y : Why) (ws : List (List ℕ)) (bs : List ℕ) → from_first is_no_blank bs ≡ w ++ spaced ws → meant f y bs ≡ Ok (x, spaced ws)
 meant_at {X} {w = w} h y ws bs e = step _ (word_read h.spelt ws bs e) (ap (λ (o : Option X). leaving (ok_or o (record { left = length (w ++ spaced ws); why = y })) (spaced ws)) h.value)
 
+-- a word that the text begins with
+pub meant_first : {X : Type 0} {f : List ℕ → Option X} {w : List ℕ} {x : X} → Reads f w x → (y : Why) (ws : List (List ℕ)) → meant f y (w ++ spaced ws) ≡ Ok (x, spaced ws)
+meant_first {w = w} h y ws = meant_at h y ws (w ++ spaced ws) (no_blank h.spelt ws)
+
 -- a word after a space
 pub meant_read : {X : Type 0} {f : List ℕ → Option X} {w : List ℕ} {x : X} → Reads f w x → (y : Why) (ws : List (List ℕ)) → meant f y (spaced (w ∷ ws)) ≡ Ok (x, spaced ws)
 meant_read {w = w} h y ws = meant_at h y ws (spaced (w ∷ ws)) (after_space h.spelt ws)
@@ -94,6 +98,6 @@ text_spaced (w ∷ ws) all = before_first-cons is_comment_sign 32 (w ++ spaced w
 pub line_read : (w : List ℕ) (ws : List (List ℕ)) {k : Name} {c : Command} → Reads name_of w k → AllByRecursion Spelt ws → body_at k (spaced ws) ≡ Ok (c, []) → command_of (w ++ spaced ws) ≡ Ok (Some c)
 line_read w ws {k} {c} h all body =
     let text = text_through h.spelt (spaced ws) (text_spaced ws all) in
-    let command : command_at (w ++ spaced ws) ≡ Ok (c, []) = step _ (meant_at h _ ws (w ++ spaced ws) (no_blank h.spelt ws)) (step _ body refl) in
+    let command : command_at (w ++ spaced ws) ≡ Ok (c, []) = step _ (meant_first h _ ws) (step _ body refl) in
     let line : line_at (w ++ spaced ws) ≡ Ok (Some c, []) = ap line_from (no_blank h.spelt ws) ∙ cond-false (eqb (length (w ++ spaced ws)) 0) _ _ (some_left h.spelt ws) ∙ step _ command refl in
     ap (λ (t : List ℕ). placed (length t) (line_at t)) text ∙ ap (placed (length (w ++ spaced ws))) line

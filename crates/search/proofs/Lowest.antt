@@ -7,7 +7,7 @@ use Rattle.moments.proofs.Pairs.{same_pair}
 use Rattle.search.specs.Steps.{Smallest, Lowest, LowestIfAny, SomeOfThem}
 
 module _ (S : Pair → Type 0) (column : ℕ) where
-  on_column : (q : Pair) → S q → q.mx ≡ column → S (pair_along Y q.my column)
+  pub on_column : (q : Pair) → S q → q.mx ≡ column → S (pair_along Y q.my column)
   on_column q s e = subst S (same_pair q (pair_along Y q.my column) e refl) s
 
   pub lowest_at : (y : ℕ) → Smallest (λ z. S (pair_along Y z column)) y → Lowest S column (pair_along Y y column)

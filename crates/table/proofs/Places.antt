@@ -1,5 +1,5 @@
 -- Where a line of a number stands in lines that rise, and where one fits. Assumes nothing.
-use Rattle.std.proofs.Common.{◌≡◌, ℕ, zero, suc, ◌<◌, true, false, ◌||◌, eqb, List, [], ◌∷◌, length, get_or, Some, Result, Ok, Err, sym, refl, ap, ◌∙◌, arith}
+use Rattle.std.proofs.Common.{◌≡◌, ℕ, zero, suc, ◌<◌, true, false, ◌||◌, cond, eqb, ltb, List, [], ◌∷◌, length, get_or, Some, Result, Ok, Err, sym, refl, ap, ◌∙◌, arith}
 use Rattle.std.specs.List.{insert, remove}
 use Rattle.std.specs.List.Sorted.{IsSearchInRange, IsBinarySearchResult, IsNonDecreasingBy}
 use Rattle.std.specs.Ordering.{nat_cmp, ordering_index}
@@ -8,7 +8,7 @@ use Rattle.std.proofs.lemmas.Cmp.{ranked}
 use Rattle.std.proofs.lemmas.Bool.{lt-ltb, le-ltb, eq-eqb, ne_eqb, and_parts, or_left, or_right, not_from_false, not_from_true, cond-true, cond-false}
 use Rattle.std.proofs.lemmas.Bool.Decides.{nat_tests}
 use Rattle.table.specs.declared.line.Line.{Line}
-use Rattle.table.specs.Lines.{leads, climbing, stands, triad_under, entered, withdrawn}
+use Rattle.table.specs.Lines.{leads, climbing, stands, triad_under, entered, withdrawn, rank}
 use Rattle.table.specs.Places.{StandsAt, FitsAt, Placed}
 use Rattle.table.proofs.Lowest.{all_above}
 
@@ -49,16 +49,28 @@ fits_absent n (l ∷ ls) (suc at) f =
     let lt = f.lower 0 l (omega arith) (omega arith) in
     ap (λ b. b || stands n ls) (ne_eqb l.number n (λ e. omega arith)) ∙ fits_absent n ls at (fits_later n l ls at f)
 
--- and there it enters
-pub entered_inserted : (k : Line) (ls : List Line) (at : ℕ) → FitsAt k.number ls at → entered k ls ≡ insert ls at k
-entered_inserted k [] zero f = refl
-entered_inserted k [] (suc at) f = absurd (let w = f.within in omega arith)
-entered_inserted k (l ∷ ls) zero f =
+-- and all lines before that place, and no more, have lower numbers
+fits_ranked : (n : ℕ) (ls : List Line) (at : ℕ) → FitsAt n ls at → rank n ls ≡ at
+fits_ranked n [] zero f = refl
+fits_ranked n [] (suc at) f = absurd (let w = f.within in omega arith)
+fits_ranked n (l ∷ ls) zero f =
     let lt = f.higher 0 l (omega arith) (omega arith) in
-    cond-false _ _ _ (le-ltb l.number k.number (omega arith))
-entered_inserted k (l ∷ ls) (suc at) f =
+    cond-false _ _ _ (le-ltb l.number n (omega arith))
+fits_ranked n (l ∷ ls) (suc at) f =
     let lt = f.lower 0 l (omega arith) (omega arith) in
-    cond-true _ _ _ (lt-ltb l.number k.number lt) ∙ ap (λ xs. l ∷ xs) (entered_inserted k ls at (fits_later k.number l ls at f))
+    cond-true _ _ _ (lt-ltb l.number n lt) ∙ ap suc (fits_ranked n ls at (fits_later n l ls at f))
+
+-- a line enters past the lower numbers that lead, whatever the order
+pub entered_ranked : (k : Line) (ls : List Line) → entered k ls ≡ insert ls (rank k.number ls) k
+entered_ranked k [] = refl
+entered_ranked k (l ∷ ls) =
+    elim (ltb l.number k.number)
+    as (λ b. cond b (l ∷ entered k ls) (k ∷ (l ∷ ls)) ≡ insert (l ∷ ls) (cond b (suc (rank k.number ls)) 0) k)
+    [ true ↦ ap (λ xs. l ∷ xs) (entered_ranked k ls) | false ↦ refl ]
+
+-- and where it fits, it enters there
+pub entered_inserted : (k : Line) (ls : List Line) (at : ℕ) → FitsAt k.number ls at → entered k ls ≡ insert ls at k
+entered_inserted k ls at f = entered_ranked k ls ∙ ap (λ i. insert ls i k) (fits_ranked k.number ls at f)
 
 -- a line that has the number stands, whatever the order
 pub stands_at : (n : ℕ) (ls : List Line) (k : ℕ) (d : Line) → k < length ls → (get_or ls k d).number ≡ n → stands n ls ≡ true

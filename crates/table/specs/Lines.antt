@@ -1,5 +1,5 @@
 -- Lists of load cases, as a table holds them. Assumes nothing.
-use Rattle.std.specs.Prelude.{ℕ, Bool, true, cond, not, ◌&&◌, List, [], ◌∷◌, Some, None, Option, ◌==◌, nat_le, nat_lt}
+use Rattle.std.specs.Prelude.{ℕ, suc, Bool, true, cond, not, ◌&&◌, List, [], ◌∷◌, Some, None, Option, ◌==◌, nat_le, nat_lt}
 use Rattle.std.specs.List.{list_all, list_any, filter}
 use Rattle.moments.specs.Limits.{last_case}
 use Rattle.moments.specs.Triads.{in_limits}
@@ -49,3 +49,8 @@ entered k (l ∷ ls) = cond (nat_lt l.number k.number) (l ∷ entered k ls) (k �
 -- the lines without that of the number n
 abbrev pub withdrawn : ℕ → List Line → List Line
 withdrawn n = filter (λ l. not (l.number == n))
+
+-- how many lines, from the first on, have a number below n
+abbrev pub rank : ℕ → List Line → ℕ
+rank n [] = 0
+rank n (l ∷ ls) = cond (nat_lt l.number n) (suc (rank n ls)) 0

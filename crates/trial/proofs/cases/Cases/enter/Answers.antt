@@ -22,18 +22,19 @@ module _ (n : ℕ) (t : Triad) (cs : List Line) (at place : ℕ) (order : InOrde
         ranged = ap all_sound in_place ∙ sound-entered (line_of n t) cs (line_fits n t cs admitted.0) order.ranged;
       }
 
--- what was admitted to the slice is admitted to the list
-admitted_to : (n : ℕ) (t : Triad) (at : ℕ) (xs cs : List Line) → xs ≡ cs → InOrder cs → (climbing xs ≡ true → Admits n t xs (Ok at)) → Admits n t cs (Ok at)
-admitted_to n t at xs cs e order a = subst (λ (ls : List Line). Admits n t ls (Ok at)) e (a (ap climbing e ∙ order.rising))
+-- what was admitted to the slice, by a number that is equal, is admitted to the list
+admitted_to : (m n : ℕ) (t : Triad) (at : ℕ) (xs cs : List Line) → xs ≡ cs → InOrder cs → (climbing xs ≡ true → Admits m t xs (Ok at)) → m ≡ n → Admits n t cs (Ok at)
+admitted_to m n t at xs cs e order a same =
+    subst (λ (i : ℕ). Admits i t cs (Ok at)) same (subst (λ (ls : List Line). Admits m t ls (Ok at)) e (a (ap climbing e ∙ order.rising)))
 
 pub invariant_of-self-2 : goal.invariant_of-self-2
 invariant_of-self-2 c =
     let cs = c.self.inside.list.items in
-    let a = admitted_to c.args.number c.args.triad c.in_ok-at.at _ cs c.as_slice.ensures.value c.self.invariant c.in_ok-at.ensures in
+    let a = admitted_to _ c.args.number c.args.triad c.in_ok-at.at _ cs c.as_slice.ensures.value c.self.invariant c.in_ok-at.ensures (grind (arith)) in
     rw c.in_ok-insert.ensures.items (in_order c.args.number c.args.triad cs c.in_ok-at.at _ c.self.invariant a (omega arith))
 
 pub returns : goal.returns
 returns c =
     let cs = c.self.inside.list.items in
-    let a = admitted_to c.args.number c.args.triad c.in_ok-at.at _ cs c.as_slice.ensures.value c.self.invariant c.in_ok-at.ensures in
+    let a = admitted_to _ c.args.number c.args.triad c.in_ok-at.at _ cs c.as_slice.ensures.value c.self.invariant c.in_ok-at.ensures (grind (arith)) in
     rw (← c.self.view_is) (a.0, c.in_ok-insert.ensures.items ∙ in_place c.args.number c.args.triad cs c.in_ok-at.at _ c.self.invariant a (omega arith))
