@@ -33,6 +33,10 @@ pub record Meets (p : Line → ℕ → Bool) (low ceiling : ℕ) (lines : List L
   pub upto : z ≤ ceiling
   pub passed : AllByRecursion (λ l. T (p l z)) lines
 
+-- before the first line only the bounds count
+pub meets_none : (p : Line → ℕ → Bool) (low ceiling : ℕ) (lines : List Line) → low ≤ ceiling → Smallest (Meets p low ceiling (take 0 lines)) low
+meets_none p low ceiling lines h = record { holds = record { from = le_refl low; upto = h; passed = tt }; least = λ z m. m.from }
+
 module _ (p : Line → ℕ → Bool) (low ceiling : ℕ) (lines : List Line) (i : ℕ) (d : Line) (inside : i < length lines) where
   -- one more line, whose own least number is k, where what a line passes grows
   pub meets_more : (n k : ℕ) → ((l : Line) (a b : ℕ) → a ≤ b → b ≤ ceiling → T (p l a) → T (p l b))
@@ -52,6 +56,10 @@ module _ (p : Line → ℕ → Bool) (low ceiling : ℕ) (lines : List Line) (i 
             max-le (known.least z (record { from = w.from; upto = w.upto; passed = all_fewer (λ x. T (p x z)) lines i w.passed }))
             (own.least z w.upto (all_last (λ x. T (p x z)) lines i d inside w.passed));
       }
+
+  -- where one line passes no number, there is none that all pass
+  pub meets_stop : ((z : ℕ) → z ≤ ceiling → T (p (get_or lines i d) z) → ⊥) → (z : ℕ) → Meets p low ceiling lines z → ⊥
+  meets_stop never z m = never z m.upto (All-get_or (λ l. T (p l z)) lines i d inside m.passed)
 
 -- what a line passes along a direction, with k across it
 abbrev pub along : Meaning → Direction → ℕ → Line → ℕ → Bool

@@ -1,12 +1,15 @@
 -- What the laws of a ranking give: there is one best pair at most, and how a search keeps it. Assumes nothing.
-use Rattle.std.proofs.Common.{◌≡◌, ℕ, ◌<◌, ◌≤◌, Bool, T, ◌↔◌, Some, None, Option, IsSome, sym, refl, subst, ⊎_elim, arith}
+use Rattle.std.proofs.Common.{◌≡◌, ℕ, ◌+◌, ◌-◌, ◌<◌, ◌≤◌, Bool, T, ◌↔◌, Some, None, Option, IsSome, sym, refl, subst, ⊎_elim, arith}
 use Rattle.std.proofs.lemmas.Bool.{cases_lt}
-use Rattle.moments.specs.Pairs.{sum}
+use Rattle.std.specs.Option.{SomeIff}
+use Rattle.moments.specs.Pairs.{pair_along, sum}
+use Rattle.moments.specs.declared.pair.Direction.TheVariants.{X, Y}
 use Rattle.moments.specs.declared.pair.Pair.{Pair}
 use Rattle.moments.proofs.Pairs.{same_pair, same_or_not}
 use Rattle.search.specs.Best.{Best, BestIfAny, LeastSum}
 use Rattle.search.specs.Rankings.{Ranks}
-use Rattle.search.specs.Steps.{Lowest, Improved}
+use Rattle.search.specs.Steps.{PreferredUpTo, NextColumn, Lowest, Improved}
+use Rattle.search.proofs.Lowest.{on_column}
 
 -- where S has a pair, a best one is given
 pub best_given : (ahead : Pair → Pair → Bool) (S : Pair → Type 0) (o : Option Pair) → BestIfAny ahead S o → (p : Pair) → S p → IsSome o
@@ -38,6 +41,11 @@ module _ (ahead : Pair → Pair → Bool) (ranks : Ranks ahead) where
     -- a rival is equal to the best pair exactly where it is best
     pub best_only : (p : Pair) → Best ahead S p → (q : Pair) → (p ≡ q) ↔ Best ahead S q
     best_only p b q = (λ e. subst (λ (r : Pair). Best ahead S r) e b, λ d. best_unique p q b d)
+
+    -- the pair of S that no pair of S comes before is the best
+    pub best_unbeaten : (p : Pair) → S p → ((q : Pair) → S q → T (ahead q p) → ⊥) → Best ahead S p
+    best_unbeaten p s unbeaten =
+        record { belongs = s; first = λ q t other. ⊎_elim (λ h. absurd (unbeaten q t h)) (λ h. h) (ranks.total q p other) }
 
     -- no pair has a smaller sum than the best
     pub best_least_sum : (p : Pair) → Best ahead S p → LeastSum S p
@@ -78,3 +86,47 @@ module _ (ahead : Pair → Pair → Bool) (ranks : Ranks ahead) where
                   (λ le. h (subst (λ (r : Pair). T (ahead r best)) (is_lowest q s e le) k))
                   (cases_lt low.my q.my);
             }
+
+      -- the column is empty
+      pub improved_none : S best → ((z : ℕ) → S (pair_along Y z column) → ⊥) → Improved ahead S best column best
+      improved_none belongs never =
+          record { belongs = belongs; no_later = λ q k. k; unbeaten = λ q s e k. never q.my (on_column S column q s e) }
+
+    -- columns that are passed over
+    pub unbeaten_skip : (best : Pair) (ceiling from column : ℕ) → Unbeaten ahead S best from → NextColumn ahead S best ceiling from column → Unbeaten ahead S best column
+    unbeaten_skip best ceiling from column old next q s lt h =
+        ⊎_elim (λ passed. old q s passed h) (λ on. next.skipped q s on lt h) (cases_lt q.mx from)
+
+    -- a column that is asked
+    pub unbeaten_more : (best r : Pair) (column : ℕ) → Unbeaten ahead S best column → Improved ahead S best column r → Unbeaten ahead S r (column + 1)
+    unbeaten_more best r column old new q s lt h =
+        ⊎_elim (λ passed. old q s passed (new.no_later q h)) (λ on. new.unbeaten q s (omega arith) h) (cases_lt q.mx column)
+
+    pub best_at_end : (best : Pair) (from : ℕ) → S best → Unbeaten ahead S best from → ((q : Pair) → S q → from ≤ q.mx → T (ahead q best) → ⊥) → Best ahead S best
+    best_at_end best from belongs old beyond =
+        best_unbeaten best belongs (λ q s h. ⊎_elim (λ passed. old q s passed h) (λ on. beyond q s on h) (cases_lt q.mx from))
+
+  -- the largest my with which a pair can be preferred, from a column on
+  module _ (best : Pair) (from : ℕ) where
+    -- the sum is too small already
+    pub none_past : sum best < from → PreferredUpTo ahead best from None
+    none_past past q on h = let le = no_larger q best h in omega arith
+
+    module _ (my : ℕ) (is : my ≡ sum best - from) (reached : from ≤ sum best) where
+      abbrev tie : Pair
+      tie = pair_along X from my
+
+      pub up_to_tie : PreferredUpTo ahead best from (Some my)
+      up_to_tie q on h = let le = no_larger q best h in omega arith
+
+      -- a pair of the same sum in that column is not preferred: a smaller sum is needed there, and further on there is less room anyway
+      below_tie : (T (ahead tie best) → ⊥) → (q : Pair) → from ≤ q.mx → T (ahead q best) → q.my < my
+      below_tie ne q on h =
+          let le = no_larger q best h in
+          ⊎_elim (λ lt. lt)
+          (λ ge. absurd (ne (subst (λ (r : Pair). T (ahead r best)) (same_pair q tie (omega arith) (omega arith)) h)))
+          (cases_lt q.my my)
+
+      pub up_to_less : (T (ahead tie best) → ⊥) → (o : Option ℕ) → SomeIff o (1 ≤ my) (my - 1) → PreferredUpTo ahead best from o
+      up_to_less ne (Some h) less = λ q on k. let lt = below_tie ne q on k in let e = less.1 in omega arith
+      up_to_less ne None less = λ q on k. let lt = below_tie ne q on k in less (omega arith)

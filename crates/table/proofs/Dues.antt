@@ -22,6 +22,13 @@ line_fits n t ls due =
     let q = not_due (not (in_limits t)) _ _ p.1 in
     and_from _ _ (not-false _ p.0) (not-false _ q.0)
 
+-- and its number does not stand
+pub line_fresh : (n : ℕ) (t : Triad) (ls : List Line) → line_due n t ls ≡ None → stands n ls ≡ false
+line_fresh n t ls due =
+    let p = not_due (not (is_number n)) _ _ due in
+    let q = not_due (not (in_limits t)) _ _ p.1 in
+    (not_due (stands n ls) _ _ q.1).0
+
 -- a refusal due by the first rows is due whatever rows follow
 pub due_first : (rows more : List (Bool × Refusal)) (e : Refusal) → first_refusal rows ≡ Some e → Some (number_of e) ≡ first_due (rows ++ more)
 due_first [] more e h = let z : ◌≡◌ {A = ℕ} 0 1 = cc in absurd (omega arith)

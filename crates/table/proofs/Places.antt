@@ -1,11 +1,11 @@
 -- Where a line of a number stands in lines that rise, and where one fits. Assumes nothing.
-use Rattle.std.proofs.Common.{◌≡◌, ℕ, zero, suc, ◌<◌, true, false, ◌||◌, cond, eqb, ltb, List, [], ◌∷◌, length, get_or, Some, Result, Ok, Err, sym, refl, ap, ◌∙◌, arith}
+use Rattle.std.proofs.Common.{◌≡◌, ℕ, zero, suc, ◌<◌, true, false, ◌||◌, cond, eqb, ltb, List, [], ◌∷◌, length, get_or, Some, Result, Ok, Err, sym, refl, ap, ◌∙◌, subst, ⊎_elim, arith}
 use Rattle.std.specs.List.{insert, remove}
 use Rattle.std.specs.List.Sorted.{IsSearchInRange, IsBinarySearchResult, IsNonDecreasingBy}
 use Rattle.std.specs.Ordering.{nat_cmp, ordering_index}
 use Rattle.std.proofs.ByRecursion.{All-get_or}
 use Rattle.std.proofs.lemmas.Cmp.{ranked}
-use Rattle.std.proofs.lemmas.Bool.{lt-ltb, le-ltb, eq-eqb, ne_eqb, and_parts, or_left, or_right, not_from_false, not_from_true, cond-true, cond-false}
+use Rattle.std.proofs.lemmas.Bool.{lt-ltb, le-ltb, eq-eqb, ne_eqb, and_parts, or_left, or_right, not_from_false, not_from_true, cond-true, cond-false, false≢true, cases_order}
 use Rattle.std.proofs.lemmas.Bool.Decides.{nat_tests}
 use Rattle.table.specs.declared.line.Line.{Line}
 use Rattle.table.specs.Lines.{leads, climbing, stands, triad_under, entered, withdrawn, rank}
@@ -77,6 +77,25 @@ pub stands_at : (n : ℕ) (ls : List Line) (k : ℕ) (d : Line) → k < length l
 stands_at n [] k d h e = absurd (omega arith)
 stands_at n (l ∷ ls) zero d h e = or_left _ (stands n ls) (eq-eqb _ _ e)
 stands_at n (l ∷ ls) (suc k) d h e = or_right (eqb l.number n) _ (stands_at n ls k d (omega arith) e)
+
+-- in lines that rise, the line of a number that stands is past the lower numbers
+pub stands_ranked : (n : ℕ) (ls : List Line) → climbing ls ≡ true → stands n ls ≡ true → StandsAt n ls (rank n ls)
+stands_ranked n [] c s = absurd (false≢true s)
+stands_ranked n (l ∷ ls) c s =
+    let p = and_parts (leads l.number ls) (climbing ls) c in
+    let higher = all_above l.number ls p.0 p.1 in
+    ⊎_elim
+    (λ e. subst (StandsAt n (l ∷ ls)) (sym (cond-false _ _ _ (le-ltb l.number n (omega arith)))) (record { within = omega arith; numbered = λ d. e }))
+    (⊎_elim
+    (λ lt.
+    let ne = ne_eqb l.number n (λ e. omega arith) in
+    let later = stands_ranked n ls p.1 (ap (λ b. b || stands n ls) (sym ne) ∙ s) in
+    subst (StandsAt n (l ∷ ls)) (sym (cond-true _ _ _ (lt-ltb _ _ lt))) (record { within = let w = later.within in omega arith; numbered = later.numbered }))
+    (λ gt.
+    let ne = ne_eqb l.number n (λ e. omega arith) in
+    let none = (fits_nowhere n ls (λ k d h. let g = All-get_or _ ls k d h higher in omega arith)).0 in
+    absurd (false≢true (sym (ap (λ b. b || stands n ls) ne ∙ none) ∙ s))))
+    (cases_order l.number n)
 
 -- the number stands with the moments of the line at its place, and withdrawing it takes that line
 pub record Leaves (n : ℕ) (ls : List Line) (at : ℕ) : Type 0 where
