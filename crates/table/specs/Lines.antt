@@ -50,7 +50,7 @@ entered k (l ∷ ls) = cond (nat_lt l.number k.number) (l ∷ entered k ls) (k �
 abbrev pub withdrawn : ℕ → List Line → List Line
 withdrawn n = filter (λ l. not (l.number == n))
 
--- how many lines, from the first on, have a number below n
+-- how many lines, from the first on, have a number below n; only proofs speak of it
 abbrev pub rank : ℕ → List Line → ℕ
 rank n [] = 0
 rank n (l ∷ ls) = cond (nat_lt l.number n) (suc (rank n ls)) 0
